@@ -1,0 +1,56 @@
+-- The claims are not empty: card A gets its table, two inputs are read with it, and this is what demand 3 says of them.
+use mathlib.Core.Path.{_≡_, refl}
+use mathlib.Core.List.{List, [], _∷_, _++_}
+use mathlib.Core.Logic.{_⊎_, inl, inr}
+use Prim.Native.Nat.{ℕ}
+use native.Mathlib.Omega.{arith}
+use Rattle.sets.specs.Bit.{bit}
+use Rattle.sets.specs.Tests.{allBelow, between}
+use Rattle.grammar.specs.Grammar.{Sentence, Rightmost}
+use Rattle.grammar.specs.Prefix.{ErrorPosition}
+use Rattle.grammar.specs.Card
+use Rattle.grammar.specs.Card.{grammarOf, symbols, symbolOf, startOf, rightOf, isNonterminal, isSymbol, leftsOk, rightsOk, formFault}
+use Rattle.tables.specs.Layout
+use Rattle.tables.specs.Layout.{width, cellOf, sizeOf, build}
+use Rattle.tables.specs.Machine.{popped, topOf, actionOf, shifted, reducedTo, reduced, movedBy, after, run, start, expectedWord, expectedCount, expected, reportOf}
+use Rattle.tables.specs.Checks
+use Rattle.tables.specs.Checks.{Reading, productionOk, terminalCellOk, cellOk, rowOk, productionsOk, cellsOk, terminalOk, inputOk, refusalOf, reading}
+use Rattle.claim.specs.Claim.{Demand3, Settled}
+use Rattle.lalr.specs.Nonterminals.{nullables, productive, reachable, uselessNonterminal, firsts}
+use Rattle.lalr.specs.Lalr
+use Rattle.lalr.specs.Lalr.{facts, closure, advance, goto}
+use Rattle.lalr.specs.Generator.{made, cardAnswer, tableOf}
+use Rattle.certificate.specs.Rows.{cardA}
+use Rattle.certificate.proofs.Demand.{demand-3}
+
+a-made : cardAnswer cardA ≡ made
+unfolding bit allBelow between Card.terminals Card.nonterminals Card.productions symbols Card.leftOf Card.lengthOf symbolOf startOf rightOf Card.sizesOk isNonterminal isSymbol leftsOk rightsOk formFault nullables productive reachable uselessNonterminal firsts Lalr.states facts closure advance goto Lalr.start
+a-made = refl
+
+-- with one place behind the table, stack and list areas of 4 and 2 places, 5 steps
+abbrev read : List ℕ → Reading
+read input = reading (tableOf cardA ++ 0 ∷ []) input (9 ∷ 9 ∷ 9 ∷ 9 ∷ []) (9 ∷ 9 ∷ []) 5
+
+settled : {n : ℕ} → (n ≡ 0) ⊎ (n ≡ 31) → Settled n
+settled (inl e) = record { taken = λ h k. omega arith; steps-left = λ z. omega arith; stack-left = λ z. omega arith; list-left = λ z. omega arith }
+settled (inr e) = record { taken = λ h k. omega arith; steps-left = λ z. omega arith; stack-left = λ z. omega arith; list-left = λ z. omega arith }
+
+good-claim : Demand3 (grammarOf cardA) (2 ∷ 1 ∷ []) (record { report = 0 ∷ 5 ∷ 2 ∷ 2 ∷ []; stack = 0 ∷ 2 ∷ 0 ∷ 9 ∷ []; list = 1 ∷ 0 ∷ [] })
+unfolding bit allBelow between Card.terminals Card.nonterminals Card.productions symbols Card.leftOf Card.lengthOf symbolOf startOf rightOf nullables productive reachable uselessNonterminal firsts Lalr.states facts closure advance goto Lalr.start tableOf build Layout.states Layout.terminals Layout.nonterminals Layout.productions width Layout.leftOf Layout.lengthOf cellOf sizeOf popped topOf actionOf shifted reducedTo reduced movedBy after run start expectedWord expectedCount expected reportOf Checks.sizesOk productionOk terminalCellOk cellOk rowOk productionsOk cellsOk terminalOk inputOk refusalOf reading
+good-claim = demand-3 cardA a-made (0 ∷ []) (2 ∷ 1 ∷ []) (9 ∷ 9 ∷ 9 ∷ 9 ∷ []) (9 ∷ 9 ∷ []) 5
+
+-- 2 1 is a sentence, and its one rightmost derivation is by the productions 0 1
+pub good-sentence : Sentence (grammarOf cardA) (2 ∷ 1 ∷ [])
+good-sentence = good-claim .accepts (settled (inl refl)) .0 refl
+
+pub good-derivation : Rightmost (grammarOf cardA) (3 ∷ []) (0 ∷ 1 ∷ []) (2 ∷ 1 ∷ [])
+unfolding Card.terminals
+good-derivation = good-claim .derivation refl
+
+bad-claim : Demand3 (grammarOf cardA) (2 ∷ 2 ∷ []) (record { report = 31 ∷ 1 ∷ 2 ∷ 0 ∷ 1 ∷ 3 ∷ 2 ∷ []; stack = 0 ∷ 1 ∷ 9 ∷ 9 ∷ []; list = 9 ∷ 9 ∷ [] })
+unfolding bit allBelow between Card.terminals Card.nonterminals Card.productions symbols Card.leftOf Card.lengthOf symbolOf startOf rightOf nullables productive reachable uselessNonterminal firsts Lalr.states facts closure advance goto Lalr.start tableOf build Layout.states Layout.terminals Layout.nonterminals Layout.productions width Layout.leftOf Layout.lengthOf cellOf sizeOf popped topOf actionOf shifted reducedTo reduced movedBy after run start expectedWord expectedCount expected reportOf Checks.sizesOk productionOk terminalCellOk cellOk rowOk productionsOk cellsOk terminalOk inputOk refusalOf reading
+bad-claim = demand-3 cardA a-made (0 ∷ []) (2 ∷ 2 ∷ []) (9 ∷ 9 ∷ 9 ∷ 9 ∷ []) (9 ∷ 9 ∷ []) 5
+
+-- 2 2 goes wrong at its second terminal
+pub bad-position : ErrorPosition (grammarOf cardA) (2 ∷ 2 ∷ []) 1
+bad-position = bad-claim .names-position (settled (inr refl)) (λ e. omega arith) .1

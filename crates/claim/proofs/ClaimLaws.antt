@@ -1,0 +1,130 @@
+-- Demand 3 for the reader, proved for every table that means the grammar.
+use Prim.Native.Nat.{ℕ, suc, _+_, _≤_}
+use mathlib.Core.Path.{_≡_, refl, ap, _∙_}
+use mathlib.Core.Logic.{_≢_, _↔_}
+use mathlib.Core.List.{List, [], _∷_, reverse}
+use lib.ListN.{length, drop, take, take-append-drop}
+use native.Mathlib.Omega.{arith}
+use Rattle.grammar.specs.Grammar.{Grammar, Formed, Symbols, Sentence, Rightmost}
+use Rattle.lr.proofs.Runs
+use Rattle.lr.specs.Items
+use Rattle.lr.proofs.ItemLaws.{AllProductive}
+use Rattle.lr.proofs.MachineLaws.{accepted, refused}
+use Rattle.lr.proofs.ErrorPosition.{Begins, ErrorPosition, at-terminal, at-end, place-of, begins-front}
+use Rattle.tables.specs.Machine.{Outcome, start}
+use Rattle.tables.specs.Checks.{Reading, reading, refusalOf}
+pub use Rattle.claim.specs.Claim.{Settled, Demand3}
+use Rattle.machine.proofs.LrMachineLaws.{Config, conf, Steps, steps-of}
+use Rattle.machine.proofs.Areas.{Finished, Why, accepted-here, wrong-here, no-steps, list-full, broken-here, stack-full}
+use Rattle.claim.proofs.Means.{Limits, TableMeans}
+use Rattle.claim.proofs.Refusals.{Refusal, refusals, input-long, no-terminal, no-stack, takes}
+use Rattle.claim.proofs.Follow.{act, tab, on, follows, Followed, followed, ends-accept, ends-wrong, never-broken}
+use Rattle.machine.proofs.ReportLaws.{numberOf, positionOf, productionsOf, Read, reads, refuses, number-is, position-is, productions-are}
+
+-- the end is named just where the input begins a sentence and is none
+end-is : (g : Grammar) (l : List ℕ) (i : ℕ) → ErrorPosition g l i → (i ≡ length l) ↔ (Begins g l × (Sentence g l → ⊥))
+end-is g l i (at-terminal h b n) = (
+  λ e. absurd (omega arith),
+  λ t. absurd (n (begins-front g (take (suc i) l) (drop (suc i) l) (rw take-append-drop (t .0)))),
+)
+end-is g l i (at-end e b n) = (λ _. (b, n), λ _. e)
+
+unsettled : {g : Grammar} (l : List ℕ) (r : Reading) → (21 ≤ numberOf r → numberOf r ≤ 24 → ⊥) → numberOf r ≢ 35 → numberOf r ≢ 0 → (Settled (numberOf r) → ⊥) → Demand3 g l r
+unsettled l r h₁ h₂ h₃ h₄ =
+    record {
+      table-taken = h₁;
+      never-breaks = h₂;
+      accepts = λ s. absurd (h₄ s);
+      derivation = λ z. absurd (h₃ z);
+      only = λ z _ _. absurd (h₃ z);
+      names-position = λ s _. absurd (h₄ s);
+      names-end = λ s _. absurd (h₄ s);
+    }
+
+-- the place counts the shifts
+place-count : (t l st la : List ℕ) (a : ℕ) {o : Outcome} (fd : Finished t l a (start st la) (0 ∷ []) l [] o) → o .final .position + length (fd .productions) ≡ fd .steps
+unfolding start
+place-count t l st la a fd = let c = fd .count in let p = fd .places in let m = fd .holds .many in omega (arith, c, p, m)
+
+-- how a run that was not refused ends
+pub data Ended (g : Grammar) (l : List ℕ) (i : ℕ) (p : List ℕ) : ℕ → Type 0 where
+  sentence : Sentence g l → Rightmost g (g.terminals ∷ []) (reverse p) l → ((q : List ℕ) → Rightmost g (g.terminals ∷ []) q l → q ≡ reverse p) → Ended g l i p 0
+  no-sentence : (Sentence g l → ⊥) → ErrorPosition g l i → Ended g l i p 31
+  out-32 : Ended g l i p 32
+  out-33 : Ended g l i p 33
+  out-34 : Ended g l i p 34
+
+module _ (g : Grammar) (f : Formed g) (pr : AllProductive g) (li : Limits g) (t : List ℕ) (tm : TableMeans g t) where
+  pub ended : {l : List ℕ} → Symbols g.terminals l → {k sr lr n e steps : ℕ} {qs x out : List ℕ} → Steps t steps (conf (0 ∷ []) l []) (conf qs x out) → Why t k sr lr qs x out n e
+      → (i : ℕ) → i + length out ≡ steps → Ended g l i out n
+  ended {l} m {n = n} {steps = steps} {qs = qs} {x = x} {out = out} mv w i hi = go (follows g f pr li t tm mv [] l [] refl (Items.by-item (Items.with-lookahead Items.start)) m) refl
+    where
+      finish : {γ qs x out : List ℕ} → Runs.Run g (act g f pr li t tm) [] l out γ x → Items.Viable g γ → Symbols g.terminals x → qs ≡ on g f pr li t tm γ → i + length x ≡ length l
+          → {k sr lr n e : ℕ} → Why t k sr lr qs x out n e → Ended g l i out n
+      finish {γ} s v mx eq ei (accepted-here h _) =
+          let a = accepted g f (act g f pr li t tm) (tab g f pr li t tm) m s (ends-accept g f pr li t tm γ mx eq h refl) in
+          sentence (a .sentence) (a .derivation) (a .only)
+      finish {γ} s v mx eq ei (wrong-here h) =
+          let z = place-of g (refused g f (act g f pr li t tm) (tab g f pr li t tm) pr m s (ends-wrong g f pr li t tm γ mx eq h refl)) in
+          let ez : z .0 ≡ i = omega (arith, z .1) in
+          no-sentence (z .2) (rw ez at (z .3))
+      finish s v mx eq ei (no-steps h _) = out-32
+      finish s v mx eq ei (list-full r _ _ _ _) = out-34
+      finish {γ} s v mx eq ei (broken-here h _ _) = absurd (never-broken g f pr li t tm v mx eq h refl)
+      finish s v mx eq ei (stack-full _ _ _ _ _ _ _) = out-33
+
+      go : {c : Config} → Followed g f pr li t tm [] l [] steps c → c ≡ conf qs x out → Ended g l i out n
+      go (followed {γ′} {x′} {p} s v mx e) ec =
+          let ex : x′ ≡ x = cc in
+          let eo : p ≡ out = cc in
+          let eq : qs ≡ on g f pr li t tm γ′ = cc in
+          let e′ = ap length ex in
+          let e″ = ap length eo in
+          finish (rw (ex, eo) at s) v (rw ex at mx) eq (omega (arith, e, e′, e″, hi)) w
+
+  demand-of : (l : List ℕ) (r : Reading) {i : ℕ} {p : List ℕ} {n : ℕ} → numberOf r ≡ n → (n ≡ 31 → positionOf r ≡ i) → productionsOf r ≡ p → Ended g l i p n → Demand3 g l r
+  demand-of l r en ei ep (sentence s d o) =
+      record {
+        table-taken = λ h k. omega (arith, en);
+        never-breaks = λ e. omega (arith, en, e);
+        accepts = λ _. (λ _. s, λ _. en);
+        derivation = λ _. rw ep d;
+        only = λ _ q z. rw ep (o q z);
+        names-position = λ _ z. absurd (z en);
+        names-end = λ _ z. absurd (z en);
+      }
+  demand-of l r {i} en ei ep (no-sentence s p) =
+      record {
+        table-taken = λ h k. omega (arith, en);
+        never-breaks = λ e. omega (arith, en, e);
+        accepts = λ _. (λ z. absurd (omega (arith, en, z)), λ z. absurd (s z));
+        derivation = λ z. absurd (omega (arith, en, z));
+        only = λ z _ _. absurd (omega (arith, en, z));
+        names-position = λ _ z. (en, rw (ei refl) p);
+        names-end = λ _ z. rw (ei refl) (end-is g l i p);
+      }
+  demand-of l r en ei ep out-32 = unsettled l r (λ h k. omega (arith, en)) (λ e. omega (arith, en, e)) (λ e. omega (arith, en, e)) (λ s. s .steps-left en)
+  demand-of l r en ei ep out-33 = unsettled l r (λ h k. omega (arith, en)) (λ e. omega (arith, en, e)) (λ e. omega (arith, en, e)) (λ s. s .stack-left en)
+  demand-of l r en ei ep out-34 = unsettled l r (λ h k. omega (arith, en)) (λ e. omega (arith, en, e)) (λ e. omega (arith, en, e)) (λ s. s .list-left en)
+
+  -- THE CLAIM
+  pub demand-3 : (l st la : List ℕ) (a : ℕ) → Demand3 g l (reading t l st la a)
+  demand-3 l st la a = go (refusals g f li t tm l (length st)) refl
+    where
+      stopped : (n : ℕ) → refusalOf t l (length st) ≡ n → 25 ≤ n → n ≤ 27 → Demand3 g l (reading t l st la a)
+      stopped n e h k =
+          let z : refusalOf t l (length st) ≢ 0 = λ z. omega (arith, e, z) in
+          let en : numberOf (reading t l st la a) ≡ n = ap numberOf (refuses t l st la a z) ∙ e in
+          unsettled l (reading t l st la a) (λ b c. omega (arith, en)) (λ e. omega (arith, en, e)) (λ e. omega (arith, en, e)) (λ s. s .taken (omega (arith, en)) (omega (arith, en)))
+
+      read : Symbols g.terminals l → Read t l st la a (reading t l st la a) → Demand3 g l (reading t l st la a)
+      read m rd =
+          let fd = rd .finished in
+          demand-of l (reading t l st la a) (number-is rd) (λ e. position-is rd (number-is rd ∙ e)) (productions-are rd)
+          (ended m (steps-of t (fd .path)) (fd .why) (rd .outcome .final .position) (place-count t l st la a fd))
+
+      go : {n : ℕ} → Refusal g f li t tm l (length st) n → refusalOf t l (length st) ≡ n → Demand3 g l (reading t l st la a)
+      go (input-long h) e = stopped 25 e (omega arith) (omega arith)
+      go (no-terminal h k) e = stopped 26 e (omega arith) (omega arith)
+      go (no-stack h k z) e = stopped 27 e (omega arith) (omega arith)
+      go (takes h m k) e = read m (reads t l st la a k e)

@@ -1,0 +1,14 @@
+-- Demand 3 for any list that is the grammar's table, with anything behind it in its area.
+use Prim.Native.Nat.{ℕ, _≤_}
+use mathlib.Core.List.{List, _++_}
+use Rattle.grammar.specs.Grammar.{Grammar, Formed}
+use Rattle.lr.specs.Cells.{Table}
+use Rattle.lr.proofs.ItemLaws.{AllProductive}
+use Rattle.tables.specs.Checks.{reading}
+use Rattle.claim.proofs.Means.{Limits}
+use Rattle.claim.proofs.Meaning.{table-means}
+use Rattle.claim.proofs.ClaimLaws.{Demand3, demand-3}
+
+pub claim : (g : Grammar) → Formed g → AllProductive g → Limits g → (count : ℕ) (next : ℕ → ℕ → ℕ) (l : List ℕ) → Table g count next l → count ≤ 256
+    → (behind input stack list : List ℕ) (limit : ℕ) → Demand3 g input (reading (l ++ behind) input stack list limit)
+claim g f pr li count next l tb few behind = demand-3 g f pr li (l ++ behind) (table-means g f pr li count next l tb few behind)

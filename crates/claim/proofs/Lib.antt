@@ -1,0 +1,6 @@
+pub mod Means
+pub mod Meaning
+pub mod Refusals
+pub mod Follow
+pub mod ClaimLaws
+pub mod Delivered

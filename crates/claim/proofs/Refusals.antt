@@ -1,0 +1,150 @@
+-- The reader's checks of a table that means a grammar: 21 to 24 never come, and 25 to 27 come just where they are due.
+use Prim.Native.Nat.{ℕ, zero, suc, _+_, _-_, _<_, _≤_}
+use mathlib.Core.Path.{_≡_, refl}
+use mathlib.Core.Logic.{_≢_}
+use mathlib.Core.List.{List, [], _∷_}
+use mathlib.Core.Bool.{Bool, true, false}
+use lib.ListN.{length, drop, getD}
+use lib.Dec.{ltb, leb}
+use borrow.Author.Tests.{lt-ltb, le-ltb, le-leb, ne-eqb, ltb-true, ltb-false, leb-true, leb-false}
+use native.Mathlib.Omega.{arith}
+use native.Mathlib.Decide.{decLt, ℕ-discrete}
+use Rattle.grammar.specs.Grammar.{Grammar, Formed, Symbols, none, more}
+use Rattle.lr.proofs.Automaton.{Goes, goes}
+use Rattle.tables.specs.Layout.{states, terminals, nonterminals, productions, width, cellOf, leftOf, lengthOf, sizeOf}
+use Rattle.tables.specs.Checks.{sizesOk, productionOk, terminalCellOk, cellOk, rowOk, productionsOk, cellsOk, terminalOk, inputOk, refusalOf}
+use Rattle.sets.specs.Tests.{unless}
+use Rattle.sets.proofs.TestLaws.{and-true, and-left, and-right, all-true, all-at, between-true}
+use Rattle.claim.proofs.Means.{Acts, shifts, reduces, accepts, Limits, TableMeans}
+
+-- a symbol of a right side is not the end terminal
+dot-positive : (g : Grammar) (f : Formed g) (r d : ℕ) {x : ℕ} {β : List ℕ} → r ≤ g.productions → drop d (g.right r) ≡ x ∷ β → 0 < x
+dot-positive g f r d {x} {β} h e = go (decLt r g.productions)
+  where
+    dropped : (d : ℕ) {n : ℕ} {l : List ℕ} → Symbols n l → Symbols n (drop d l)
+    dropped zero s = s
+    dropped (suc d) none = none
+    dropped (suc d) (more h k s) = dropped d s
+
+    head : {n : ℕ} → Symbols n (x ∷ β) → 0 < x
+    head (more h k s) = h
+
+    all : r ≡ g.productions → Symbols (g.terminals + g.nonterminals) (g.right r)
+    all z = rw (z, f.added) (more (f.end-marker) (omega (arith, f.start-nonterminal)) none)
+
+    go : Dec (r < g.productions) → 0 < x
+    go (yes k) = head (rw e at (dropped d (f.right-symbols r k)))
+    go (no k) = head (rw e at (dropped d (all (omega (arith, k)))))
+
+module _ (g : Grammar) (f : Formed g) (li : Limits g) (t : List ℕ) (tm : TableMeans g t) where
+  width-means : width t ≡ g.terminals + g.nonterminals
+  unfolding width
+  width-means = rw (tm.terminals-are, tm.nonterminals-are)
+
+  sizes-ok : sizesOk t ≡ true
+  unfolding sizesOk
+  sizes-ok =
+      and-true (between-true 1 256 (states t) (tm.automaton .some-state) (tm.states-most))
+      (and-true (between-true 1 64 (terminals t) (rw tm.terminals-are (f.end-marker)) (rw tm.terminals-are (li.terminals-most)))
+      (and-true (between-true 1 60 (nonterminals t) (rw tm.nonterminals-are (f.start-nonterminal)) (rw tm.nonterminals-are (li.nonterminals-most)))
+      (between-true 1 128 (productions t) (rw tm.productions-are (li.productions-least)) (rw tm.productions-are (li.productions-most)))))
+
+  productions-ok : productionsOk t ≡ true
+  unfolding productionsOk productionOk
+  productions-ok = all-true (productionOk t) (productions t) (λ r h. each r (rw tm.productions-are at h))
+    where
+      each : (r : ℕ) → r < g.productions → productionOk t r ≡ true
+      each r h =
+          let el = tm.lefts r h in
+          let en = tm.lengths r h in
+          and-true (and-true (le-leb (terminals t) (leftOf t r) (rw (tm.terminals-are, el) (f.left-nonterminal r h))) (lt-ltb (leftOf t r) (width t) (rw (width-means, el) (f.left-below r h))))
+          (le-leb (lengthOf t r) 512 (rw en (li.length-most r h)))
+
+  terminal-cell : (q x v : ℕ) → q < states t → Acts g tm.has tm.next q x v → v ≢ 0 → terminalCellOk t x v ≡ true
+  unfolding terminalCellOk
+  terminal-cell q x v h a nz = go a nz
+    where
+      go : {v : ℕ} → Acts g tm.has tm.next q x v → v ≢ 0 → terminalCellOk t x v ≡ true
+      go (shifts z) nz = rw (ne-eqb (tm.next q x) 0 nz, lt-ltb (tm.next q x) (states t) (tm.automaton .next-below h), ne-eqb x 0 (positive (tm.automaton .next-some h .0 z)))
+        where
+          positive : Goes g (tm.has q) x → x ≢ 0
+          positive (goes {r} {d} i e) = let p = dot-positive g f r d (tm.items i) e in omega arith
+      go (reduces r k b) nz =
+          let s = tm.states-most in
+          let n = li.productions-most in
+          let e : (1024 + r) - 1024 ≡ r = omega arith in
+          rw (ne-eqb (1024 + r) 0 nz, le-ltb (1024 + r) (states t) (omega arith), ne-eqb (1024 + r) 4096 (omega arith), le-ltb (1024 + r) 1024 (omega arith), e, tm.productions-are) (lt-ltb r g.productions k)
+      go (accepts e b) nz =
+          let s = tm.states-most in
+          rw (le-ltb 4096 (states t) (omega arith), e)
+
+  zero-ok : (x : ℕ) → terminalCellOk t x 0 ≡ true
+  unfolding terminalCellOk
+  zero-ok x = refl
+
+  cell-ok : (q x : ℕ) → q < states t → x < width t → cellOk t x (cellOf t q x) ≡ true
+  unfolding cellOk
+  cell-ok q x h k = go (decLt x (terminals t)) (ℕ-discrete (cellOf t q x) 0)
+    where
+      go : Dec (x < terminals t) → Dec (cellOf t q x ≡ 0) → cellOk t x (cellOf t q x) ≡ true
+      go (yes b) (yes z) = rw (lt-ltb x (terminals t) b, z) (zero-ok x)
+      go (yes b) (no z) = rw (lt-ltb x (terminals t) b) (terminal-cell q x (cellOf t q x) h (tm.from-cell h (rw tm.terminals-are at b) z) z)
+      go (no b) _ =
+          let e = tm.terminals-are in
+          let e′ = width-means in
+          rw (le-ltb x (terminals t) (omega (arith, b)), tm.nonterminal-cell {q = q} {x = x} h (omega (arith, b)) (omega arith)) (lt-ltb (tm.next q x) (states t) (tm.automaton .next-below h))
+
+  cells-ok : cellsOk t ≡ true
+  unfolding cellsOk rowOk
+  cells-ok = all-true (rowOk t) (states t) (λ q h. all-true (λ x. cellOk t x (cellOf t q x)) (width t) (λ x k. cell-ok q x h k))
+
+  long : leb 4 (length t) ≡ true
+  unfolding sizeOf
+  long = let h = tm.whole in le-leb 4 (length t) (omega (arith, h))
+
+  -- 21 to 24 never come
+  pub refusal-is : (l : List ℕ) (n : ℕ) → refusalOf t l n ≡ unless (leb (length l) 65535) 25 (unless (inputOk t l) 26 (unless (ltb 0 n) 27 0))
+  unfolding refusalOf
+  refusal-is l n = rw (long, sizes-ok, le-leb (sizeOf t) (length t) (tm.whole), productions-ok, cells-ok)
+
+  terminal-is : (b : ℕ) → terminalOk t b ≡ true → (0 < b) × (b < g.terminals)
+  unfolding terminalOk
+  terminal-is b e = (ltb-true 0 b (and-left (ltb 0 b) (ltb b (terminals t)) e), rw tm.terminals-are at (ltb-true b (terminals t) (and-right (ltb 0 b) (ltb b (terminals t)) e)))
+
+  terminals-from : (l : List ℕ) → ((i : ℕ) → i < length l → terminalOk t (getD l i 0) ≡ true) → Symbols g.terminals l
+  terminals-from [] h = none
+  terminals-from (b ∷ l) h = let k = terminal-is b (h 0 (omega arith)) in more (k .0) (k .1) (terminals-from l (λ i z. h (suc i) (omega arith)))
+
+  -- 26 says that the input is no list of terminals
+  pub input-terminals : (l : List ℕ) → inputOk t l ≡ true → Symbols g.terminals l
+  unfolding inputOk
+  input-terminals l e = terminals-from l (all-at (λ i. terminalOk t (getD l i 0)) (length l) e)
+
+  pub terminals-input : {l : List ℕ} → Symbols g.terminals l → inputOk t l ≡ true
+  unfolding inputOk terminalOk
+  terminals-input {l} m = all-true (λ i. terminalOk t (getD l i 0)) (length l) (λ i h. at m i h)
+    where
+      at : {l : List ℕ} → Symbols g.terminals l → (i : ℕ) → i < length l → terminalOk t (getD l i 0) ≡ true
+      at none i h = absurd (omega arith)
+      at (more {a} h k m) zero z = and-true (lt-ltb 0 a h) (lt-ltb a (terminals t) (rw tm.terminals-are k))
+      at (more h k m) (suc i) z = at m i (omega arith)
+
+  -- what the reader's refusal is, of such a table
+  pub data Refusal (l : List ℕ) (n : ℕ) : ℕ → Type 0 where
+    input-long : 65535 < length l → Refusal l n 25
+    no-terminal : length l ≤ 65535 → (Symbols g.terminals l → ⊥) → Refusal l n 26
+    no-stack : length l ≤ 65535 → Symbols g.terminals l → n ≡ 0 → Refusal l n 27
+    takes : length l ≤ 65535 → Symbols g.terminals l → 0 < n → Refusal l n 0
+
+  pub refusals : (l : List ℕ) (n : ℕ) → Refusal l n (refusalOf t l n)
+  refusals l n = rw refusal-is (go (leb (length l) 65535) (inputOk t l) (ltb 0 n) refl refl refl)
+    where
+      go : (a b c : Bool) → leb (length l) 65535 ≡ a → inputOk t l ≡ b → ltb 0 n ≡ c → Refusal l n (unless a 25 (unless b 26 (unless c 27 0)))
+      go false b c ea eb ec = input-long (leb-false (length l) 65535 ea)
+      go true false c ea eb ec = no-terminal (leb-true (length l) 65535 ea) (λ m. let e = terminals-input m in let z : _≡_ {A = ℕ} 0 1 = cc in omega arith)
+      go true true false ea eb ec = no-stack (leb-true (length l) 65535 ea) (input-terminals l eb) (let h = ltb-false 0 n ec in omega arith)
+      go true true true ea eb ec = takes (leb-true (length l) 65535 ea) (input-terminals l eb) (ltb-true 0 n ec)
+
+  -- an input of terminals, not too long, with some place for the stack, is taken
+  pub taken-is : {l : List ℕ} (n : ℕ) → length l ≤ 65535 → Symbols g.terminals l → 0 < n → refusalOf t l n ≡ 0
+  taken-is {l} n h m k = rw (refusal-is, le-leb (length l) 65535 h, terminals-input m, lt-ltb 0 n k)

@@ -1,0 +1,4 @@
+pub mod Grammar
+pub mod Card
+pub mod Useful
+pub mod Prefix

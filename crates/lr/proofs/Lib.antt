@@ -1,0 +1,13 @@
+pub mod Firsts
+pub mod Runs
+pub mod ItemLaws
+pub mod Automaton
+pub mod MachineLaws
+pub mod Paths
+pub mod Unique
+pub mod RelationLaws
+pub mod ErrorPosition
+pub mod Least
+pub mod OneTable
+pub mod CanonicalSets
+pub mod ShortWay

@@ -1,0 +1,5 @@
+pub mod LrMachineLaws
+pub mod Areas
+pub mod ReportLaws
+pub mod Spent
+pub mod Checked

@@ -1,0 +1,5 @@
+pub mod BitLaws
+pub mod HasLaws
+pub mod CountLaws
+pub mod TestLaws
+pub mod ListLaws

@@ -1,0 +1,3 @@
+pub mod Bit
+pub mod Tests
+pub mod Lists

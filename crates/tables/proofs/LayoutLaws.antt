@@ -1,0 +1,179 @@
+-- Every place of a table is a size, a left side, a length or a cell; so a table is known by these.
+use Prim.Native.Nat.{ℕ, suc, zero, _+_, _*_, _-_, _/_, _%_, _≤_, _<_}
+use mathlib.Core.Path.{_≡_, refl, sym, ap, _∙_, subst}
+use mathlib.Core.List.{List, [], _∷_, _++_}
+use lib.ListN.{length, getD, length-append, List·getD-append, List·getD-eq-default}
+use lib.Seq.{ext-getD, getD-append-add}
+use lib.Arith.{digits-lt}
+use native.Mathlib.Omega.{arith}
+use native.Mathlib.Nat.{mod-lt, div-lt-iff-lt-mul, div-add-mod', mul-one}
+use native.Mathlib.Decide.{decLt}
+use Rattle.tables.specs.Layout.{states, terminals, nonterminals, productions, width, leftOf, lengthOf, cellOf, sizeOf, build}
+use Rattle.sets.specs.Lists.{each}
+use Rattle.sets.proofs.ListLaws.{each-length, each-at}
+
+module _ (p w n : ℕ) (wide : 0 < w) (Q : ℕ → Type 0) (sizes : (i : ℕ) → i < 4 → Q i) (lefts : (r : ℕ) → r < p → Q (4 + r)) (lengths : (r : ℕ) → r < p → Q (4 + p + r))
+    (cells : (q x : ℕ) → q < n → x < w → Q (4 + 2 * p + q * w + x)) where
+  rows : (k : ℕ) → k < n * w → Q (4 + 2 * p + k)
+  rows k b =
+      let e : 4 + 2 * p + k / w * w + k % w ≡ 4 + 2 * p + k = let d = div-add-mod' k w in omega (arith, d) in
+      subst Q e (cells (k / w) (k % w) (div-lt-iff-lt-mul wide .1 b) (mod-lt k wide))
+
+  all-places : (i : ℕ) → i < 4 + 2 * p + n * w → Q i
+  all-places i h = go₁ (decLt i 4)
+    where
+      go₃ : 4 + p ≤ i → Dec (i < 4 + 2 * p) → Q i
+      go₃ b (yes d) = let e : 4 + p + (i - 4 - p) ≡ i = omega arith in subst Q e (lengths (i - 4 - p) (omega arith))
+      go₃ b (no d) = let e : 4 + 2 * p + (i - 4 - 2 * p) ≡ i = omega arith in subst Q e (rows (i - 4 - 2 * p) (omega arith))
+
+      go₂ : 4 ≤ i → Dec (i < 4 + p) → Q i
+      go₂ a (yes b) = let e : 4 + (i - 4) ≡ i = omega arith in subst Q e (lefts (i - 4) (omega arith))
+      go₂ a (no b) = go₃ (omega arith) (decLt i (4 + 2 * p))
+
+      go₁ : Dec (i < 4) → Q i
+      go₁ (yes a) = sizes i a
+      go₁ (no a) = go₂ (omega arith) (decLt i (4 + p))
+
+by-size : (Q : ℕ → Type 0) → Q 0 → Q 1 → Q 2 → Q 3 → (i : ℕ) → i < 4 → Q i
+by-size Q a b c d zero h = a
+by-size Q a b c d (suc zero) h = b
+by-size Q a b c d (suc (suc zero)) h = c
+by-size Q a b c d (suc (suc (suc zero))) h = d
+by-size Q a b c d (suc (suc (suc (suc i)))) h = absurd (omega arith)
+
+-- two lists of the length that their sizes ask for, with the same parts, are equal
+module _ (t u : List ℕ) (wide : 0 < width t) (long : length t ≡ sizeOf t) (long′ : length u ≡ sizeOf u) where
+  pub one-list : states t ≡ states u → terminals t ≡ terminals u → nonterminals t ≡ nonterminals u → productions t ≡ productions u
+      → ((r : ℕ) → r < productions t → leftOf t r ≡ leftOf u r) → ((r : ℕ) → r < productions t → lengthOf t r ≡ lengthOf u r)
+      → ((q x : ℕ) → q < states t → x < width t → cellOf t q x ≡ cellOf u q x) → t ≡ u
+  unfolding states terminals nonterminals productions width leftOf lengthOf cellOf sizeOf
+  one-list e₀ e₁ e₂ e₃ lefts lengths cells =
+      ext-getD 0 t u (long ∙ size ∙ sym long′) (λ i h. all-places (productions t) (width t) (states t) wide (λ i. getD t i 0 ≡ getD u i 0) (by-size (λ i. getD t i 0 ≡ getD u i 0) e₀ e₁ e₂ e₃) lefts
+      (λ r h. lengths r h ∙ rw e₃ refl) (λ q x hq hx. cells q x hq hx ∙ rw (e₁, e₂, e₃) refl) i (rw long at h))
+    where
+      size : sizeOf t ≡ sizeOf u
+      size = rw (e₀, e₁, e₂, e₃)
+
+-- a bound on the parts is one on every place
+pub at-most : (t : List ℕ) (b : ℕ) → 0 < width t → length t ≡ sizeOf t → states t ≤ b → terminals t ≤ b → nonterminals t ≤ b → productions t ≤ b → ((r : ℕ) → r < productions t → leftOf t r ≤ b)
+    → ((r : ℕ) → r < productions t → lengthOf t r ≤ b) → ((q x : ℕ) → q < states t → x < width t → cellOf t q x ≤ b) → (i : ℕ) → getD t i 0 ≤ b
+unfolding states terminals nonterminals productions width leftOf lengthOf cellOf sizeOf
+at-most t b wide long b₀ b₁ b₂ b₃ lefts lengths cells i = go (decLt i (length t))
+  where
+    go : Dec (i < length t) → getD t i 0 ≤ b
+    go (yes h) = all-places (productions t) (width t) (states t) wide (λ i. getD t i 0 ≤ b) (by-size (λ i. getD t i 0 ≤ b) b₀ b₁ b₂ b₃) lefts lengths cells i (rw long at h)
+    go (no h) = rw (List·getD-eq-default t 0 {n = i} (omega arith)) (omega arith)
+
+-- what is built reads as it was built
+module _ (q t n p : ℕ) (left length′ : ℕ → ℕ) (cell : ℕ → ℕ → ℕ) where
+  abbrev built : List ℕ
+  built = build q t n p left length′ cell
+
+  abbrev lefts : List ℕ
+  lefts = each p (λ r. left r ∷ [])
+
+  abbrev lengths : List ℕ
+  lengths = each p (λ r. length′ r ∷ [])
+
+  abbrev cells : List ℕ
+  cells = each q (λ s. each (t + n) (λ x. cell s x ∷ []))
+
+  pub built-sizes : (states built ≡ q) × (terminals built ≡ t) × (nonterminals built ≡ n) × (productions built ≡ p)
+  unfolding build states terminals nonterminals productions
+  built-sizes = (refl, refl, refl, refl)
+
+  ones-length : (k : ℕ) (f : ℕ → ℕ) → length (each k (λ i. f i ∷ [])) ≡ k
+  ones-length k f = each-length k 1 (λ i. f i ∷ []) (λ i h. refl) ∙ mul-one k
+
+  ones-at : (k : ℕ) (f : ℕ → ℕ) (i : ℕ) → i < k → getD (each k (λ i. f i ∷ [])) i 0 ≡ f i
+  ones-at k f i h = let e : i * 1 + 0 ≡ i = omega arith in ap (λ (j : ℕ). getD (each k (λ i. f i ∷ [])) j 0) (sym e) ∙ each-at k 1 (λ i. f i ∷ []) 0 (λ i h. refl) i 0 h (omega arith)
+
+  skip4 : (a b d e : ℕ) (l : List ℕ) (k : ℕ) → getD (a ∷ b ∷ d ∷ e ∷ l) (4 + k) 0 ≡ getD l k 0
+  skip4 a b d e l k = let z : 4 + k ≡ suc (suc (suc (suc k))) = omega arith in rw z
+
+  skip : (xs ys : List ℕ) (m k : ℕ) → length xs ≡ m → getD (xs ++ ys) (m + k) 0 ≡ getD ys k 0
+  skip xs ys m k e = rw (← e) (getD-append-add xs ys k 0)
+
+  pub built-left : (r : ℕ) → r < p → leftOf built r ≡ left r
+  unfolding build leftOf
+  built-left r h =
+      skip4 q t n p (lefts ++ (lengths ++ cells)) r ∙ List·getD-append lefts (lengths ++ cells) 0 r (rw (ones-length p left) h) ∙ ones-at p left r h
+
+  pub built-length : (r : ℕ) → r < p → lengthOf built r ≡ length′ r
+  unfolding build lengthOf productions
+  built-length r h =
+      let e : 4 + p + r ≡ 4 + (p + r) = omega arith in
+      ap (λ (i : ℕ). getD (q ∷ t ∷ n ∷ p ∷ (lefts ++ (lengths ++ cells))) i 0) e
+      ∙ skip4 q t n p (lefts ++ (lengths ++ cells)) (p + r)
+      ∙ skip lefts (lengths ++ cells) p r (ones-length p left)
+      ∙ List·getD-append lengths cells 0 r (rw (ones-length p length′) h)
+      ∙ ones-at p length′ r h
+
+  row-length : (s : ℕ) → s < q → length (each (t + n) (λ x. cell s x ∷ [])) ≡ t + n
+  row-length s h = ones-length (t + n) (cell s)
+
+  pub built-cell : (s x : ℕ) → s < q → x < t + n → cellOf built s x ≡ cell s x
+  unfolding build cellOf width terminals nonterminals productions
+  built-cell s x hs hx =
+      let e : 4 + 2 * p + s * (t + n) + x ≡ 4 + (p + (p + (s * (t + n) + x))) = omega arith in
+      ap (λ (i : ℕ). getD (q ∷ t ∷ n ∷ p ∷ (lefts ++ (lengths ++ cells))) i 0) e
+      ∙ skip4 q t n p (lefts ++ (lengths ++ cells)) (p + (p + (s * (t + n) + x)))
+      ∙ skip lefts (lengths ++ cells) p (p + (s * (t + n) + x)) (ones-length p left)
+      ∙ skip lengths cells p (s * (t + n) + x) (ones-length p length′)
+      ∙ each-at q (t + n) (λ s. each (t + n) (λ x. cell s x ∷ [])) 0 row-length s x hs hx
+      ∙ ones-at (t + n) (cell s) x hx
+
+  pub built-long : length built ≡ sizeOf built
+  unfolding build sizeOf width states terminals nonterminals productions
+  built-long =
+      let a : length (lefts ++ (lengths ++ cells)) ≡ length lefts + length (lengths ++ cells) = length-append lefts (lengths ++ cells) in
+      let b : length (lengths ++ cells) ≡ length lengths + length cells = length-append lengths cells in
+      let d : length cells ≡ q * (t + n) = each-length q (t + n) (λ s. each (t + n) (λ x. cell s x ∷ [])) row-length in
+      omega (arith, ones-length p left, ones-length p length′)
+
+-- numbers behind a table change nothing of it
+module _ (l pad : List ℕ) (long : length l ≡ sizeOf l) where
+  at-front : (i : ℕ) → i < sizeOf l → getD (l ++ pad) i 0 ≡ getD l i 0
+  at-front i h = List·getD-append l pad 0 i (rw long h)
+
+  four : 4 ≤ sizeOf l
+  unfolding sizeOf
+  four = omega arith
+
+  pub front-states : states (l ++ pad) ≡ states l
+  unfolding states
+  front-states = at-front 0 (omega (arith, four))
+
+  pub front-terminals : terminals (l ++ pad) ≡ terminals l
+  unfolding terminals
+  front-terminals = at-front 1 (omega (arith, four))
+
+  pub front-nonterminals : nonterminals (l ++ pad) ≡ nonterminals l
+  unfolding nonterminals
+  front-nonterminals = at-front 2 (omega (arith, four))
+
+  pub front-productions : productions (l ++ pad) ≡ productions l
+  unfolding productions
+  front-productions = at-front 3 (omega (arith, four))
+
+  pub front-width : width (l ++ pad) ≡ width l
+  unfolding width
+  front-width = rw (front-terminals, front-nonterminals)
+
+  pub front-size : sizeOf (l ++ pad) ≡ sizeOf l
+  unfolding sizeOf
+  front-size = rw (front-states, front-width, front-productions)
+
+  pub front-left : (r : ℕ) → r < productions l → leftOf (l ++ pad) r ≡ leftOf l r
+  unfolding leftOf sizeOf
+  front-left r h = at-front (4 + r) (omega arith)
+
+  pub front-length : (r : ℕ) → r < productions l → lengthOf (l ++ pad) r ≡ lengthOf l r
+  unfolding lengthOf sizeOf
+  front-length r h = rw front-productions (at-front (4 + productions l + r) (omega arith))
+
+  pub front-cell : (q x : ℕ) → q < states l → x < width l → cellOf (l ++ pad) q x ≡ cellOf l q x
+  unfolding cellOf sizeOf
+  front-cell q x h k =
+      let b : q * width l + x < states l * width l = digits-lt h k in
+      rw (front-productions, front-width) (at-front (4 + 2 * productions l + q * width l + x) (omega arith))

@@ -1,0 +1,69 @@
+-- "The reader refuses": 21 to 27 in their order, and the whole reading.
+use Prim.Native.Nat.{ℕ, _-_}
+use mathlib.Core.List.{List, [], _∷_}
+use mathlib.Core.Bool.{Bool, true, false, not, cond, _&&_}
+use lib.ListN.{length, getD}
+use lib.Dec.{ltb, leb, eqb}
+use Rattle.sets.specs.Tests.{allBelow, between, unless}
+use Rattle.tables.specs.Layout.{states, terminals, nonterminals, productions, width, leftOf, lengthOf, cellOf, sizeOf}
+use Rattle.tables.specs.Machine.{run, start, reportOf}
+
+-- 22: the limits of the paper, and Q at least 1
+unfoldable pub sizesOk : List ℕ → Bool
+sizesOk t = between 1 256 (states t) && (between 1 64 (terminals t) && (between 1 60 (nonterminals t) && between 1 128 (productions t)))
+
+-- 23: the left side of production r is a nonterminal, and its length is at most 512
+unfoldable pub productionOk : List ℕ → ℕ → Bool
+productionOk t r = leb (terminals t) (leftOf t r) && ltb (leftOf t r) (width t) && leb (lengthOf t r) 512
+
+-- 24: the values of a terminal's column: 0, a shift but not in column 0, accept in column 0 alone, a reduction
+unfoldable pub terminalCellOk : List ℕ → ℕ → ℕ → Bool
+terminalCellOk t x v =
+    cond (eqb v 0) true
+    (cond (ltb v (states t)) (not (eqb x 0))
+    (cond (eqb v 4096) (eqb x 0)
+    (cond (ltb v 1024) false (ltb (v - 1024) (productions t)))))
+
+-- a nonterminal's column has a state, or 0
+unfoldable pub cellOk : List ℕ → ℕ → ℕ → Bool
+cellOk t x v = cond (ltb x (terminals t)) (terminalCellOk t x v) (ltb v (states t))
+
+unfoldable pub rowOk : List ℕ → ℕ → Bool
+rowOk t q = allBelow (width t) (λ x. cellOk t x (cellOf t q x))
+
+unfoldable pub productionsOk : List ℕ → Bool
+productionsOk t = allBelow (productions t) (productionOk t)
+
+unfoldable pub cellsOk : List ℕ → Bool
+cellsOk t = allBelow (states t) (rowOk t)
+
+-- 26: a terminal of the input is neither 0 nor at least T
+unfoldable pub terminalOk : List ℕ → ℕ → Bool
+terminalOk t b = ltb 0 b && ltb b (terminals t)
+
+unfoldable pub inputOk : List ℕ → List ℕ → Bool
+inputOk t l = allBelow (length l) (λ i. terminalOk t (getD l i 0))
+
+-- the number of the first refusal that applies, or 0; n is the length of the stack area
+unfoldable pub refusalOf : List ℕ → List ℕ → ℕ → ℕ
+refusalOf t l n =
+    unless (leb 4 (length t)) 21
+    (unless (sizesOk t) 22
+    (unless (leb (sizeOf t) (length t)) 21
+    (unless (productionsOk t) 23
+    (unless (cellsOk t) 24
+    (unless (leb (length l) 65535) 25
+    (unless (inputOk t l) 26
+    (unless (ltb 0 n) 27 0)))))))
+
+-- a reading: the numbers that it answers and both areas as it leaves them
+pub record Reading : Type 0 where
+  pub report : List ℕ
+  pub stack : List ℕ
+  pub list : List ℕ
+
+unfoldable pub reading : List ℕ → List ℕ → List ℕ → List ℕ → ℕ → Reading
+reading t l st li a =
+    cond (eqb (refusalOf t l (length st)) 0)
+    (record { report = reportOf t (run t l a (start st li)); stack = run t l a (start st li) .final .stack; list = run t l a (start st li) .final .list })
+    (record { report = refusalOf t l (length st) ∷ []; stack = st; list = li })

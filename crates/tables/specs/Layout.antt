@@ -1,0 +1,44 @@
+-- The layout of a parse table: the sizes Q, T, N, P; two arrays of P numbers, left sides and lengths; then Q rows of T + N cells.
+-- Every place of a table is named here and nowhere else. A place past the end reads 0.
+use Prim.Native.Nat.{ℕ, _+_, _*_}
+use mathlib.Core.List.{List, [], _∷_, _++_}
+use lib.ListN.{getD}
+use Rattle.sets.specs.Lists.{each}
+
+-- the sizes: Q states, T terminals (the paper's marks), N nonterminals (names), P productions (rules)
+unfoldable pub states : List ℕ → ℕ
+states t = getD t 0 0
+
+unfoldable pub terminals : List ℕ → ℕ
+terminals t = getD t 1 0
+
+unfoldable pub nonterminals : List ℕ → ℕ
+nonterminals t = getD t 2 0
+
+unfoldable pub productions : List ℕ → ℕ
+productions t = getD t 3 0
+
+-- the cells of a row: one for each symbol
+unfoldable pub width : List ℕ → ℕ
+width t = terminals t + nonterminals t
+
+-- the left side of production r
+unfoldable pub leftOf : List ℕ → ℕ → ℕ
+leftOf t r = getD t (4 + r) 0
+
+-- the length of the right side of production r
+unfoldable pub lengthOf : List ℕ → ℕ → ℕ
+lengthOf t r = getD t (4 + productions t + r) 0
+
+-- the cell of state q and symbol x
+unfoldable pub cellOf : List ℕ → ℕ → ℕ → ℕ
+cellOf t q x = getD t (4 + 2 * productions t + q * width t + x) 0
+
+-- how many numbers the sizes ask for
+unfoldable pub sizeOf : List ℕ → ℕ
+sizeOf t = 4 + 2 * productions t + states t * width t
+
+-- the table with these sizes, left sides, lengths and cells
+unfoldable pub build : ℕ → ℕ → ℕ → ℕ → (ℕ → ℕ) → (ℕ → ℕ) → (ℕ → ℕ → ℕ) → List ℕ
+build q t n p left length cell =
+    q ∷ t ∷ n ∷ p ∷ (each p (λ r. left r ∷ []) ++ (each p (λ r. length r ∷ []) ++ each q (λ s. each (t + n) (λ x. cell s x ∷ []))))
