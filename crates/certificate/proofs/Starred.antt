@@ -9,9 +9,9 @@ use Rattle.grammar.specs.Card
 use Rattle.grammar.specs.Card.{symbols, symbolOf, startOf, rightOf, isNonterminal, isSymbol, leftsOk, rightsOk, formFault}
 use Rattle.tables.specs.Layout
 use Rattle.tables.specs.Layout.{width, cellOf, sizeOf, build}
-use Rattle.tables.specs.Machine.{popped, topOf, actionOf, shifted, reducedTo, reduced, movedBy, after, run, start, expectedWord, expectedCount, expected, reportOf}
-use Rattle.tables.specs.Checks
-use Rattle.tables.specs.Checks.{Reading, productionOk, terminalCellOk, cellOk, rowOk, productionsOk, cellsOk, terminalOk, inputOk, refusalOf, reading}
+use Rattle.machine.specs.Machine.{popped, topOf, actionOf, shifted, reducedTo, reduced, movedBy, after, run, start, expectedWord, expectedCount, expected, reportOf}
+use Rattle.machine.specs.Checks
+use Rattle.machine.specs.Checks.{Reading, productionOk, terminalCellOk, cellOk, rowOk, productionsOk, cellsOk, terminalOk, inputOk, refusalOf, reading}
 use Rattle.lalr.specs.Nonterminals.{nullables, productive, reachable, uselessNonterminal, firsts}
 use Rattle.lalr.specs.Lalr
 use Rattle.lalr.specs.Lalr.{facts, closure, advance, goto}

@@ -11,8 +11,8 @@ use Rattle.lr.specs.Items
 use Rattle.lr.proofs.ItemLaws.{AllProductive}
 use Rattle.lr.proofs.MachineLaws.{accepted, refused}
 use Rattle.lr.proofs.ErrorPosition.{Begins, ErrorPosition, at-terminal, at-end, place-of, begins-front}
-use Rattle.tables.specs.Machine.{Outcome, start}
-use Rattle.tables.specs.Checks.{Reading, reading, refusalOf}
+use Rattle.machine.specs.Machine.{Outcome, start}
+use Rattle.machine.specs.Checks.{Reading, reading, refusalOf}
 pub use Rattle.claim.specs.Claim.{Settled, Demand3}
 use Rattle.machine.proofs.LrMachineLaws.{Config, conf, Steps, steps-of}
 use Rattle.machine.proofs.Areas.{Finished, Why, accepted-here, wrong-here, no-steps, list-full, broken-here, stack-full}

@@ -12,7 +12,7 @@ use native.Mathlib.Decide.{decLt, ℕ-discrete}
 use Rattle.grammar.specs.Grammar.{Grammar, Formed, Symbols, none, more}
 use Rattle.lr.proofs.Automaton.{Goes, goes}
 use Rattle.tables.specs.Layout.{states, terminals, nonterminals, productions, width, cellOf, leftOf, lengthOf, sizeOf}
-use Rattle.tables.specs.Checks.{sizesOk, productionOk, terminalCellOk, cellOk, rowOk, productionsOk, cellsOk, terminalOk, inputOk, refusalOf}
+use Rattle.machine.specs.Checks.{sizesOk, productionOk, terminalCellOk, cellOk, rowOk, productionsOk, cellsOk, terminalOk, inputOk, refusalOf}
 use Rattle.sets.specs.Tests.{unless}
 use Rattle.sets.proofs.TestLaws.{and-true, and-left, and-right, all-true, all-at, between-true}
 use Rattle.claim.proofs.Means.{Acts, shifts, reduces, accepts, Limits, TableMeans}

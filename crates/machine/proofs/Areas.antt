@@ -10,7 +10,7 @@ use native.Mathlib.Omega.{arith}
 use native.Mathlib.Decide.{decLt, ℕ-discrete}
 use Rattle.machine.specs.LrMachine.{peek, rest}
 use Rattle.tables.specs.Layout.{cellOf, leftOf, lengthOf}
-use Rattle.tables.specs.Machine.{Machine, Next, ended, moved, accepted, popped, topOf, actionOf, shifted, reducedTo, reduced, movedBy, Outcome, after, run}
+use Rattle.machine.specs.Machine.{Machine, Next, ended, moved, accepted, popped, topOf, actionOf, shifted, reducedTo, reduced, movedBy, Outcome, after, run}
 use Rattle.machine.proofs.LrMachineLaws.{Kind, kind, is-wrong, is-shift, is-accept, is-reduce, conf, Step, StepsIn, pops-all, no-next, Ends, accepts, wrong, broken}
 
 -- the used places of both areas and the place in the input l hold a configuration

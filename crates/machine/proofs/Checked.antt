@@ -14,7 +14,7 @@ use Rattle.machine.specs.LrMachine.{peek, rest}
 use Rattle.tables.specs.Layout.{states, terminals, nonterminals, productions, width, cellOf, leftOf, lengthOf, sizeOf}
 use Rattle.sets.specs.Tests.{between, unless}
 use Rattle.sets.proofs.TestLaws.{and-left, and-right, all-at, between-at, passes}
-use Rattle.tables.specs.Checks.{sizesOk, productionOk, terminalCellOk, cellOk, rowOk, productionsOk, cellsOk, terminalOk, inputOk, refusalOf}
+use Rattle.machine.specs.Checks.{sizesOk, productionOk, terminalCellOk, cellOk, rowOk, productionsOk, cellsOk, terminalOk, inputOk, refusalOf}
 use Rattle.machine.proofs.LrMachineLaws.{Config, conf, Step, Steps}
 
 -- what the checks 22 to 26 leave

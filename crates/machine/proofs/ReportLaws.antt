@@ -9,9 +9,9 @@ use lib.Seq.{take-suc-set}
 use borrow.Author.Tests.{eq-eqb, ne-eqb}
 use native.Mathlib.Omega.{arith}
 use native.Mathlib.Decide.{ℕ-discrete}
-use Rattle.tables.specs.Machine.{Outcome, run, start, counts, expected, reportOf}
-use Rattle.tables.specs.Checks.{Reading, reading, refusalOf}
-pub use Rattle.tables.specs.Report.{numberOf, positionOf, stepsOf, productionsOf}
+use Rattle.machine.specs.Machine.{Outcome, run, start, counts, expected, reportOf}
+use Rattle.machine.specs.Checks.{Reading, reading, refusalOf}
+pub use Rattle.machine.specs.Report.{numberOf, positionOf, stepsOf, productionsOf}
 use Rattle.machine.proofs.LrMachineLaws.{conf, Steps, steps-of}
 use Rattle.machine.proofs.Areas.{Holds, Finished, finishes}
 

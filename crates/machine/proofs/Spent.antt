@@ -5,8 +5,8 @@ use mathlib.Core.List.{List, [], _∷_}
 use lib.ListN.{length, drop, length-set}
 use native.Mathlib.Omega.{arith}
 use Rattle.tables.specs.Layout.{lengthOf}
-use Rattle.tables.specs.Machine.{start}
-use Rattle.tables.specs.Checks.{Reading}
+use Rattle.machine.specs.Machine.{start}
+use Rattle.machine.specs.Checks.{Reading}
 use Rattle.machine.proofs.LrMachineLaws.{conf, Step}
 use Rattle.machine.proofs.Areas.{Why, accepted-here, wrong-here, no-steps, list-full, broken-here, stack-full}
 use Rattle.machine.proofs.ReportLaws.{numberOf, stepsOf, Read, number-is, count-is}

@@ -1,1 +1,4 @@
 pub mod LrMachine
+pub mod Machine
+pub mod Checks
+pub mod Report

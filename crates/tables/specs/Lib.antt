@@ -1,4 +1,1 @@
 pub mod Layout
-pub mod Machine
-pub mod Checks
-pub mod Report

@@ -2,7 +2,7 @@
 use Prim.Native.Nat.{ℕ}
 use mathlib.Core.List.{List}
 use lib.ListN.{take, getD}
-use Rattle.tables.specs.Checks.{Reading}
+use Rattle.machine.specs.Checks.{Reading}
 
 -- the number of the answer
 abbrev pub numberOf : Reading → ℕ

@@ -5,8 +5,8 @@ use mathlib.Core.Bool.{Bool, true, false, not, cond, _&&_}
 use lib.ListN.{length, getD}
 use lib.Dec.{ltb, leb, eqb}
 use Rattle.sets.specs.Tests.{allBelow, between, unless}
 use Rattle.tables.specs.Layout.{states, terminals, nonterminals, productions, width, leftOf, lengthOf, cellOf, sizeOf}
-use Rattle.tables.specs.Machine.{run, start, reportOf}
+use Rattle.machine.specs.Machine.{run, start, reportOf}
 
 -- 22: the limits of the paper, and Q at least 1
 unfoldable pub sizesOk : List ℕ → Bool
