@@ -107,7 +107,7 @@ module _ (g : Grammar) (f : Formed g) (pr : AllProductive g) (li : Limits g) (t 
   demand-of l r en ei ep out-33 = unsettled l r (λ h k. omega (arith, en)) (λ e. omega (arith, en, e)) (λ e. omega (arith, en, e)) (λ s. s .stack-left en)
   demand-of l r en ei ep out-34 = unsettled l r (λ h k. omega (arith, en)) (λ e. omega (arith, en, e)) (λ e. omega (arith, en, e)) (λ s. s .list-left en)
 
-  -- THE CLAIM
+  -- the claim
   pub demand-3 : (l st la : List ℕ) (a : ℕ) → Demand3 g l (reading t l st la a)
   demand-3 l st la a = go (refusals g f li t tm l (length st)) refl
     where

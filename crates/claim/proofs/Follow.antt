@@ -1,4 +1,4 @@
--- The textbook's machine over a table that means a grammar is the theory's machine over that grammar.
+-- The LR machine over a table that means a grammar makes the runs along the grammar's paths.
 use Prim.Native.Nat.{ℕ, suc, _+_, _<_}
 use mathlib.Core.Path.{_≡_, refl, sym, ap, _∙_}
 use mathlib.Core.Logic.{_≢_}
@@ -43,11 +43,11 @@ module _ (g : Grammar) (f : Formed g) (pr : AllProductive g) (li : Limits g) (t 
   pub after-steps : {γ : List ℕ} {x : ℕ} → Runs.After g γ x → (walk tm.next 0 γ < states t) × (tm.next (walk tm.next 0 γ) x ≢ 0)
   after-steps (Runs.dot-before (Items.with-lookahead i) e) = let h = has-of g f pr (states t) tm.has tm.next tm.automaton i in (h .0, tm.automaton .next-some (h .0) .1 (goes (h .1) e))
 
-  -- where the textbook's machine has come from a path's configuration, the theory's machine has come by as many moves
+  -- where the LR machine has come from a path's configuration, a run along paths has come by as many steps
   pub data Followed (γ x out : List ℕ) (n : ℕ) : Config → Type 0 where
     followed : {γ′ x′ p : List ℕ} → Runs.Run g act γ x p γ′ x′ → Items.Viable g γ′ → Symbols g.terminals x′ → n + length x′ ≡ length p + length x → Followed γ x out n (conf (on γ′) x′ (out ++ p))
 
-  -- one move
+  -- one step
   pub data Stepped (γ x out : List ℕ) : Config → Type 0 where
     shifted : {m : ℕ} {x′ : List ℕ} → x ≡ m ∷ x′ → act γ m ≡ shift → Items.Viable g (γ ++ m ∷ []) → Symbols g.terminals x′ → Stepped γ x out (conf (on (γ ++ m ∷ [])) x′ out)
     reduced : (α : List ℕ) (r : ℕ) → act γ (peek x) ≡ reduce r → γ ≡ α ++ g.right r → Items.Viable g (α ++ g.left r ∷ []) → Stepped γ x out (conf (on (α ++ g.left r ∷ [])) x (out ++ r ∷ []))
@@ -69,9 +69,6 @@ module _ (g : Grammar) (f : Formed g) (pr : AllProductive g) (li : Limits g) (t 
           (ap (cellOf t (walk tm.next 0 α)) (tm.lefts r h) ∙ tm.nonterminal-cell (a .0) (f.left-nonterminal r h) (f.left-below r h) ∙ sym w)
           (λ z. a .1 (sym w ∙ z))
           (after-viable g f act tab k)
-
-  cons-top : {q q′ : ℕ} {qs qs′ : List ℕ} → _≡_ {A = List ℕ} (q ∷ qs) (q′ ∷ qs′) → q ≡ q′
-  cons-top e = cc
 
   pub steps : {γ qs x out : List ℕ} {c : Config} → Items.Viable g γ → Symbols g.terminals x → qs ≡ on γ → Step t (conf qs x out) c → Stepped γ x out c
   steps {γ} {qs} {x} {out} v m e (Step.shift {q} {qs = qs′} s ec h k) = go m (act-is γ m ∙ ap decode (ap (λ (z : ℕ). cellOf t z (peek x)) (sym (top-walk γ e)) ∙ ec) ∙ decode-shift s h k) ec
@@ -117,7 +114,7 @@ module _ (g : Grammar) (f : Formed g) (pr : AllProductive g) (li : Limits g) (t 
       go (shifted {m = a} {x′} ex ea va mx) ih ed = rw ex (followed-shift ea (ih (γ ++ a ∷ []) x′ out ed va mx))
       go (reduced α r ea eγ va) ih ed = followed-reduce α r ea eγ (ih (α ++ g.left r ∷ []) x (out ++ r ∷ []) ed va m)
 
-  -- and the other way: the theory's machine's moves are the textbook's
+  -- and the other way: the steps of a run along paths are the LR machine's
   pub record Led (γ x out p γ′ x′ : List ℕ) : Type 0 where
     pub count : ℕ
     pub path : Steps t count (conf (on γ) x out) (conf (on γ′) x′ (out ++ p))

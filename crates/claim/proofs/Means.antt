@@ -159,12 +159,6 @@ accept-code (code-shift h k) e = let z : _≡_ {A = ℕ} 0 1 = cc in absurd (ome
 accept-code code-accept e = refl
 accept-code (code-reduce n) e = let z : _≡_ {A = ℕ} 0 1 = cc in absurd (omega arith)
 
-pub wrong-code : {a : Act} {v : ℕ} → Coded a v → a ≡ wrong → v ≡ 0
-wrong-code code-wrong e = refl
-wrong-code (code-shift h k) e = let z : _≡_ {A = ℕ} 0 1 = cc in absurd (omega arith)
-wrong-code code-accept e = let z : _≡_ {A = ℕ} 0 1 = cc in absurd (omega arith)
-wrong-code (code-reduce n) e = let z : _≡_ {A = ℕ} 0 1 = cc in absurd (omega arith)
-
 module _ (g : Grammar) (f : Formed g) (li : Limits g) (t : List ℕ) (tm : TableMeans g t) where
   below : {m : ℕ} → m < terminals t → m < g.terminals
   below h = rw tm.terminals-are at h

@@ -17,7 +17,7 @@ use Rattle.sets.specs.Tests.{unless}
 use Rattle.sets.proofs.TestLaws.{and-true, and-left, and-right, all-true, all-at, between-true}
 use Rattle.claim.proofs.Means.{Acts, shifts, reduces, accepts, Limits, TableMeans}
 
--- a symbol of a right side is not the end terminal
+-- a symbol of a right side is not the end marker
 dot-positive : (g : Grammar) (f : Formed g) (r d : ℕ) {x : ℕ} {β : List ℕ} → r ≤ g.productions → drop d (g.right r) ≡ x ∷ β → 0 < x
 dot-positive g f r d {x} {β} h e = go (decLt r g.productions)
   where
@@ -144,7 +144,3 @@ module _ (g : Grammar) (f : Formed g) (li : Limits g) (t : List ℕ) (tm : Table
       go true false c ea eb ec = no-terminal (leb-true (length l) 65535 ea) (λ m. let e = terminals-input m in let z : _≡_ {A = ℕ} 0 1 = cc in omega arith)
       go true true false ea eb ec = no-stack (leb-true (length l) 65535 ea) (input-terminals l eb) (let h = ltb-false 0 n ec in omega arith)
       go true true true ea eb ec = takes (leb-true (length l) 65535 ea) (input-terminals l eb) (ltb-true 0 n ec)
-
-  -- an input of terminals, not too long, with some place for the stack, is taken
-  pub taken-is : {l : List ℕ} (n : ℕ) → length l ≤ 65535 → Symbols g.terminals l → 0 < n → refusalOf t l n ≡ 0
-  taken-is {l} n h m k = rw (refusal-is, le-leb (length l) 65535 h, terminals-input m, lt-ltb 0 n k)

@@ -1,4 +1,4 @@
--- The list of sets and the rows of moves, as they are found.
+-- The list of sets and the rows of transitions, as they are found.
 use mathlib.Core.Path.{_≡_, refl, sym, ap, _∙_}
 use mathlib.Core.Bool.{Bool, true, false}
 use mathlib.Core.Logic.{_≢_, _⊎_, inl, inr}
@@ -119,7 +119,7 @@ module _ (P : ℕ → Type 0) where
           _&&_ : Distinct (t ∷ ts) → Distinct (t ∷ place s ts)
           _&&_ (new-first a d) = new-first (p .absent t (λ q. eqb-false s t e (sym q)) a) (p .distinct d)
 
-  -- what a move leads to
+  -- what a transition leads to
   pub data Entry (ts : List ℕ) (t i : ℕ) : Type 0 where
     no-move : t ≡ 0 → i ≡ 0 → Entry ts t i
     move : t ≢ 0 → i < length ts → getD ts i 0 ≡ t → Entry ts t i

@@ -74,9 +74,6 @@ module _ (g : Grammar) (f : Formed g) (pr : AllProductive g) (rows : List (List 
       → All P (following g (nullables g) (firsts g) rows q k a)
   follow-all P q k a h c = go (restAt g k) refl
     where
-      part : ℕ → List ℕ → ℕ → List ℕ
-      part x β b = when (lookahead β a b) (map (λ j. fact g q j b) (startsOf g x))
-
       one : (x : ℕ) (β : List ℕ) → restAt g k ≡ x ∷ β → (j : ℕ) → From j T (λ b. when (lookahead β a b) (map (λ j. fact g q j b) (startsOf g x))) → P j
       one x β e j (from b l m) =
           let t = when-from (lookahead β a b) m in

@@ -262,7 +262,7 @@ module _ (g : Grammar) where
   unfolding start
   start-small = closure-small (2 ^ first g g.productions) (pow-lt first-below)
 
-  -- there is a move just where the set behind it is not 0
+  -- there is a transition just where the set behind it is not 0
   pub goto-goes : (s x : ℕ) → goto g s x ≢ 0 → Goes g (In s) x
   goto-goes s x ne = let p : 0 < goto g s x = omega (arith, ne) in go (lowest-in (total g) (goto g s x) p (goto-small s x)) (decode (suc g.productions) (trailingZeros (total g) (goto g s x)) (lowest-lt (total g) (goto g s x) p (goto-small s x)))
     where
@@ -287,10 +287,3 @@ module _ (g : Grammar) where
       at k (decoded r d hr hd q) =
           let v : Valid r d = record { production = omega arith; dot = hd } in
           rw q (bool-same (bit s (first g r + d)) (bit t (first g r + d)) (λ h. (e r d .0 (record { valid = v; there = h })) .there) (λ h. (e r d .1 (record { valid = v; there = h })) .there))
-
-  -- for a program: any set with the right items is the set
-  pub goto-is : (s x t : ℕ) → t < 2 ^ total g → ((r d : ℕ) → In t r d ↔ CoreClosure g (CoreAdvanced g (In s) x) r d) → t ≡ goto g s x
-  goto-is s x t h e = same-sets t (goto g s x) h (goto-small s x) (λ r d. (λ i. goto-exact s x r d .1 (e r d .0 i), λ i. e r d .1 (goto-exact s x r d .0 i)))
-
-  pub start-is : (t : ℕ) → t < 2 ^ total g → ((r d : ℕ) → In t r d ↔ CoreClosure g (CoreStart g) r d) → t ≡ start g
-  start-is t h e = same-sets t (start g) h start-small (λ r d. (λ i. start-exact r d .1 (e r d .0 i), λ i. e r d .1 (start-exact r d .0 i)))

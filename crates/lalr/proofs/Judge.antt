@@ -186,7 +186,7 @@ module _ (g : Grammar) where
   judged-one (fine c x z k) (clash c′ x′ z′ k′) = absurd (both-ways (z′ .states) (z .states) k′ k)
   judged-one (fine c x z k) (fine c′ x′ z′ k′) = refl
 
--- THE ANSWER: of a card past 4 to 9 it is `a` exactly when the definition says so
+-- the answer: of a card past 4 to 9 it is `a` exactly when the definition says so
 pub answer-exact : (c : List ℕ) → formFault c ≡ 0 → (a : Answer) → (grammarAnswer (grammarOf c) ≡ a) ↔ Judged (grammarOf c) a
 answer-exact c h a =
     let fo = well-formed c h in

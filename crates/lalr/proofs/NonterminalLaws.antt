@@ -131,9 +131,6 @@ module _ (g : Grammar) where
     prod-production : (r : ℕ) → r < g.productions → Prod (g.right r) → Prod (g.left r ∷ [])
     prod-production r h (prod y) = prod (nonterminal r h y nil)
 
-    seed : ℕ
-    seed = withAll 0 (upFrom 1 (g.terminals - 1))
-
     pub productive-exact : (x : ℕ) → (bit (productive g) x ≡ true) ↔ Prod (x ∷ [])
     unfolding productive
     productive-exact x = (

@@ -253,6 +253,3 @@ module _ (g : Grammar) (f : Formed g) (pr : AllProductive g) where
       go : (run .taken ≡ length (states g .sets)) ⊎ (run .taken ≡ 257 + 0) → 256 < length (states g .rows)
       go (inl e) = let c : length (states g .rows) ≡ run .taken = run .inv .counted in omega arith
       go (inr e) = let c : length (states g .rows) ≡ run .taken = run .inv .counted in omega arith
-
-  pub many-at : (n i : ℕ) (ts : List ℕ) (rows : List (List ℕ)) → states g ≡ explore g n i ts rows → 256 < length ts → 256 < length (states g .rows)
-  many-at n i ts rows e h = many-sets (rw e (let l : length ts ≤ length (explore g n i ts rows .sets) = grown-length (explore-grows Good g keeps (start g) n i ts rows) in omega arith))

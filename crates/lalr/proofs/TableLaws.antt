@@ -156,7 +156,7 @@ module _ (c : List ℕ) (mk : Made c) where
   nonterminal-cell : (q x : ℕ) → terminals c ≤ x → column q x ≡ transitions q x
   nonterminal-cell q x h = rw (le-ltb x (terminals c) h)
 
-  -- THE TABLE
+  -- the table
   pub table-is : Table g count transitions (tableOf c)
   unfolding tableOf
   table-is =

@@ -172,15 +172,3 @@ module _ (g : Grammar) where
 
     pub all-productive : g.terminals + g.nonterminals ≤ uselessNonterminal g → AllProductive g
     all-productive h = record { made = λ {x} a b. let u = useless-nonterminal .before x a (omega arith) in let y = derives-yields g (u .productive .derived) (u .productive .terminals) in (y .0, u .productive .made, y .1) }
-
-    -- the one nonterminal that refusal 10 may name
-    pub useless-is : (k : ℕ) → LowestUseless k → k ≡ uselessNonterminal g
-    useless-is k a = go (decLt k (uselessNonterminal g)) (decLt (uselessNonterminal g) k)
-      where
-        b : LowestUseless (uselessNonterminal g)
-        b = useless-nonterminal
-
-        go : Dec (k < uselessNonterminal g) → Dec (uselessNonterminal g < k) → k ≡ uselessNonterminal g
-        go (yes l) d = absurd (a .here (omega (arith, b .to)) (b .before k (a .from) l))
-        go (no n) (yes l) = absurd (b .here (omega (arith, a .to)) (a .before (uselessNonterminal g) (b .from) l))
-        go (no n) (no m) = omega arith

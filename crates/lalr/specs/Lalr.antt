@@ -19,7 +19,7 @@ abbrev pub place : ℕ → List ℕ → List ℕ
 place s [] = s ∷ []
 place s (t ∷ ts) = elim (eqb s t) [ true ↦ t ∷ ts | false ↦ t ∷ place s ts ]
 
--- the same for the set behind a move, which is 0 where there is no move
+-- the same for the set behind a transition, which is 0 where there is none
 abbrev pub enterOf : ℕ → List ℕ → ℕ
 enterOf zero ts = 0
 enterOf (suc s) ts = placeOf (suc s) ts
@@ -69,7 +69,7 @@ module _ (g : Grammar) where
   unfoldable pub start : ℕ
   start = closure (2 ^ first g.productions)
 
-  -- the moves of the set s on the symbols x, x + 1, .., n of them: the sets known behind them, and the numbers they lead to
+  -- the transitions of the set s on the symbols x, x + 1, .., n of them: the sets known behind them, and the numbers they lead to
   abbrev pub rowSets : ℕ → ℕ → ℕ → List ℕ → List ℕ
   rowSets s zero x ts = ts
   rowSets s (suc n) x ts = rowSets s n (suc x) (enter (goto s x) ts)

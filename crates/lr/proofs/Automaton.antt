@@ -119,7 +119,7 @@ module _ (g : Grammar) where
     pub lookahead-merged : {γ : List ℕ} {r a : ℕ} → Items.Viable g γ → Lookahead g next (walk next 0 γ) r a → Items.Merged g γ r (length (g.right r)) a
     lookahead-merged v h = record { path = h .path; same = same-core v (Items.by-item (Items.with-lookahead (h .item))) (sym (h .leads)); item = h .item }
 
-    -- the cells over the numbered states are the theory's table
+    -- the cells over the numbered states are the table of actions
     pub table : (cell : ℕ → ℕ → Act) → Cells count has next cell → Runs.Table g (λ γ m. cell (walk next 0 γ) m)
     table cell c =
         record {

@@ -1,4 +1,4 @@
--- The stack of states of a path, and the place where a input stops beginning a sentence.
+-- The stack of states of a path, and the position where an input stops beginning a sentence.
 use Prim.Native.Nat.{ℕ, suc, _+_, _≤_}
 use mathlib.Core.Path.{_≡_, refl, ap, sym}
 use mathlib.Core.List.{List, [], _∷_, _++_, append-assoc, append-nil}

@@ -110,11 +110,11 @@ module _ (g : Grammar) where
     symbols-head : {n x : ℕ} {β : List ℕ} → Symbols n (x ∷ β) → 0 < x
     symbols-head (more h k s) = h
 
-    -- the end terminal stands behind no dot
+    -- the end marker stands behind no dot
     pub after-positive : {γ : List ℕ} {x : ℕ} → Runs.After g γ x → 0 < x
     after-positive (Runs.dot-before {d} (Items.with-lookahead i) e) = symbols-head (rw e at (symbols-drop d (right-of (origin i))))
 
--- lookaheads are terminals, and the added production's is the end terminal
+-- lookaheads are terminals, and the added production's is the end marker
 module _ (g : Grammar) (f : Formed g) where
   first-terminal : {β : List ℕ} {a b : ℕ} → a < g.terminals → FirstYields g β a b → b < g.terminals
   first-terminal h (yields y) = go (yield-terminals g y)

@@ -16,7 +16,7 @@ use Rattle.lr.proofs.Runs.{Act, shift, reduce, accept, wrong}
 use Rattle.lr.proofs.ItemLaws.{drop-next, Origin, added, inner, origin, Extends, AllProductive, begins}
 use Rattle.grammar.proofs.Derive.{derives-yields, rightmost-yields, yields-rightmost, rightmost-derives}
 
--- no move follows this action
+-- no step follows this action
 abbrev pub Ending : Act → Type 0
 Ending wrong = Unit {0}
 Ending accept = Unit {0}
@@ -161,7 +161,7 @@ module _ (g : Grammar) (f : Formed g) (act : List ℕ → ℕ → Act) (tab : Ru
   none-left none e = refl
   none-left (more h k m) e = absurd (omega arith)
 
-  -- THE THEOREMS. A run that accepts.
+  -- A run that accepts.
   pub runs-same : {w p q : List ℕ} → Yields g (g.terminals ∷ []) p w → Yields g (g.terminals ∷ []) q w → p ≡ q
   runs-same y z =
       let s = complete y in

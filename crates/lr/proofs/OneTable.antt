@@ -1,4 +1,4 @@
--- There is one table: two lists that are the grammar's table are equal. Assumes nothing.
+-- There is one table: two lists that are the grammar's table are equal.
 use Prim.Native.Nat.{ℕ, suc, zero, _+_, _*_, _-_, _/_, _%_, _≤_, _<_}
 use mathlib.Core.Path.{_≡_, refl, ap, sym, _∙_, subst}
 use mathlib.Core.Logic.{_≢_}
@@ -23,7 +23,7 @@ positive : (n : ℕ) → n ≢ 0 → 0 < n
 positive zero h = absurd (h refl)
 positive (suc n) h = omega arith
 
--- lookaheads depend on the moves from real states alone
+-- lookaheads depend on the transitions of the states below count alone
 module _ (g : Grammar) (f : Formed g) (pr : AllProductive g) (count : ℕ) (next next′ : ℕ → ℕ → ℕ) (st : States g count next) (e : (q x : ℕ) → q < count → next q x ≡ next′ q x) where
   item-walk : {γ : List ℕ} {r d a : ℕ} → Items.Canonical g γ r d a → walk next 0 γ ≡ walk next′ 0 γ
   item-walk Items.start = refl

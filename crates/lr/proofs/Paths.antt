@@ -1,4 +1,4 @@
--- The items of a path, by closure and advance; and the automaton of the numbered states of the definition. Assumes nothing.
+-- The items of a path, by closure and advance; and the automaton of the numbered states of the definition.
 use Prim.Native.Nat.{ℕ, suc, zero, _+_, _≤_, _<_}
 use mathlib.Core.Path.{_≡_, refl, sym, _∙_, subst}
 use mathlib.Core.Logic.{_↔_, _≢_}
@@ -77,9 +77,6 @@ module _ (g : Grammar) (f : Formed g) (pr : AllProductive g) where
   closure-map m (given h) = given (m _ _ h)
   closure-map m (opened c e h) = opened (closure-map m c) e h
 
-  item-viable : {γ : List ℕ} {r d : ℕ} → Items.Item g γ r d → Items.Viable g γ
-  item-viable i = Items.by-item i
-
   module _ (count : ℕ) (next : ℕ → ℕ → ℕ) (st : States g count next) where
     -- and so on each path
     on-path : {γ : List ℕ} {r d : ℕ} → Items.Viable g γ → Has g next (walk next 0 γ) r d → Items.Item g γ r d
@@ -144,12 +141,6 @@ module _ (g : Grammar) (f : Formed g) (pr : AllProductive g) where
       λ a. record { path = a .path; same = st .merged v (Items.by-item (Items.with-lookahead (a .item))) .0 (sym (a .leads)); item = a .item },
       λ h. record { path = h .path; leads = sym (st .merged v (Items.by-item (Items.with-lookahead (h .item))) .1 (h .same)); item = h .item },
     )
-
-    pub goes-below : {q x : ℕ} → Goes g (Has g next q) x → x < g.terminals + g.nonterminals
-    goes-below (goes h e) = go (h .item) e
-      where
-        go : {γ β : List ℕ} {r d x : ℕ} → Items.Item g γ r d → drop d (g.right r) ≡ x ∷ β → x < g.terminals + g.nonterminals
-        go (Items.with-lookahead i) e = symbol-below i e
 
     -- its production is the grammar's, or the added one
     pub item-production : {q r d : ℕ} → Has g next q r d → r ≤ g.productions

@@ -101,7 +101,7 @@ module _ (g : Grammar) (f : Formed g) (pr : AllProductive g) (count : ℕ) (has 
       go (added e _) l = absurd (omega arith)
       go (inner α h nz fo) l = record { from = walk next 0 α; move = nz; leads = sym (walk-append next 0 α (g.right s)) ∙ rw take-length at l; follows = fo }
 
-  -- THE CONVERSE. `kern`: an item of γ with x behind its dot, behind which b can begin
+  -- The converse. `kern`: an item of γ with x behind its dot, behind which b can begin
   pub data Kern (γ : List ℕ) (x b : ℕ) : Type 0 where
     kern : {r d : ℕ} {β p w : List ℕ} → Items.Item g γ r d → drop d (g.right r) ≡ x ∷ β → Yields g β p (b ∷ w) → Kern γ x b
 

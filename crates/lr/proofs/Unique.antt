@@ -1,4 +1,4 @@
--- The definition of Lalr.antt leaves one numbering: two tables of states of one grammar are the same. Assumes nothing.
+-- The definition of States.antt leaves one numbering: two tables of states of one grammar are the same.
 use Prim.Native.Nat.{ℕ, suc, zero, _+_, _≤_, _<_}
 use mathlib.Core.Path.{_≡_, refl, ap, sym, _∙_}
 use mathlib.Core.Logic.{_≢_, _⊎_, inl, inr}
@@ -97,7 +97,7 @@ each-at (suc n) f x h = go (ℕ-discrete x n) (λ k. each-at n f x k)
     go (no ne) ih = List·getD-append (each n (λ x. f x ∷ [])) (f n ∷ []) 0 x (rw len (let k : x < n = omega arith in k)) ∙ ih (omega arith)
 
 module _ (g : Grammar) where
-  -- where the number s is given: from a lower state, and every move before it leads to a lower number
+  -- where the number s is given: from a lower state, and every transition before it leads to a lower number
   pub record First (next : ℕ → ℕ → ℕ) (s : ℕ) : Type 0 where
     pub from : ℕ
     pub on : ℕ

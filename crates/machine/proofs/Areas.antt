@@ -1,4 +1,4 @@
--- The reader's machine with its areas makes the moves of the textbook's machine, and stops early only for want of moves or places.
+-- The reader's machine with its areas makes the steps of the LR machine, and stops early only for want of steps or places.
 use Prim.Native.Nat.{ℕ, zero, suc, _+_, _-_, _<_, _≤_}
 use mathlib.Core.Path.{_≡_, refl, sym, ap, _∙_}
 use mathlib.Core.Logic.{_≢_}
@@ -73,7 +73,7 @@ foldTo r n d s m = record { stack = set (popped (m .stack) (m .depth) n) d s; li
 abbrev acceptTo : Machine → Machine
 acceptTo m = record { stack = m .stack; list = m .list; depth = m .depth; listed = m .listed; position = m .position; steps = m .steps + 1 }
 
--- why a run stops, with k moves, sr places of the stack area and lr of the list area to it: at which configuration, with which number, after how many last moves
+-- why a run stops, with k steps, sr places of the stack area and lr of the list area to it: at which configuration, with which number, after how many last steps
 pub data Why (t : List ℕ) (k sr lr : ℕ) : List ℕ → List ℕ → List ℕ → ℕ → ℕ → Type 0 where
   accepted-here : {qs x out : List ℕ} → Ends t (conf qs x out) 0 → 0 < k → Why t k sr lr qs x out 0 1
   wrong-here : {qs x out : List ℕ} → Ends t (conf qs x out) 31 → Why t k sr lr qs x out 31 0
@@ -213,7 +213,7 @@ module _ (t l : List ℕ) where
     unfolding reducedTo
     to-next r n d s z h = rw (ne-eqb s 0 z, lt-ltb d (length (m .stack)) h)
 
-  -- one move more in front
+  -- one step more in front
   further : (k : ℕ) (m m′ : Machine) {qs x out qs′ x′ out′ : List ℕ} {o : Outcome} → Step t (conf qs x out) (conf qs′ x′ out′) → m′ .steps ≡ m .steps + 1 → m′ .position + m′ .listed ≡ m .position + m .listed + 1
       → length (m′ .stack) ≡ length (m .stack) → length (m′ .list) ≡ length (m .list) → Holds l m′ qs′ x′ out′ → Finished t l k m′ qs′ x′ out′ o → Finished t l (suc k) m qs x out o
   further k m m′ s em ep es el h f =

@@ -71,7 +71,7 @@ module _ (t l : List ℕ) (pa : Passed t l) where
   unfolding cellsOk rowOk
   cell-passed q x h k = all-at (λ x. cellOk t x (cellOf t q x)) (width t) (all-at (rowOk t) (states t) (pa .cells) q h) x k
 
-  -- a shift leads to a state, and never under the end terminal
+  -- a shift leads to a state, and never under the end marker
   shift-cell : (x v : ℕ) → x < terminals t → 0 < v → v < 1024 → Dec (v < states t) → cellOk t x v ≡ true → (v < states t) × (0 < x)
   unfolding cellOk terminalCellOk
   shift-cell x v k a b (yes h) e = (h, positive x (rw (lt-ltb x (terminals t) k, ne-eqb v 0 (λ z. omega arith), lt-ltb v (states t) h) at e))
@@ -148,7 +148,7 @@ module _ (t l : List ℕ) (pa : Passed t l) where
   steps-sound s Steps.none = s
   steps-sound s (Steps.more x m) = steps-sound (step-sound s x) m
 
-  -- THE THEOREM: wherever the machine comes, a shift is of a terminal of the input
+  -- wherever the machine comes, a shift is of a terminal of the input
   pub shifts-terminals : {n q : ℕ} {qs x out : List ℕ} → Steps t n (conf (0 ∷ []) l []) (conf (q ∷ qs) x out) → 0 < cellOf t q (peek x) → cellOf t q (peek x) < 1024 → 0 < peek x
   shifts-terminals {q} {qs} {x} m h k =
       let z = sizes-are .0 in

