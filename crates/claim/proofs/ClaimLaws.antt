@@ -15,7 +15,8 @@ use Rattle.machine.specs.Machine.{Outcome, start}
 use Rattle.machine.specs.Checks.{Reading, reading, refusalOf}
 pub use Rattle.claim.specs.Claim.{Settled, Demand3}
 use Rattle.machine.proofs.LrMachineLaws.{Config, conf, Steps, steps-of}
-use Rattle.machine.proofs.Areas.{Finished, Why, accepted-here, wrong-here, no-steps, list-full, broken-here, stack-full}
+use Rattle.machine.proofs.Areas.{Finished}
+use Rattle.machine.specs.Faithful.{Stops, accepted-here, wrong-here, no-steps, list-full, broken-here, stack-full}
 use Rattle.claim.proofs.Means.{Limits, TableMeans}
 use Rattle.claim.proofs.Refusals.{Refusal, refusals, input-long, no-terminal, no-stack, takes}
 use Rattle.claim.proofs.Follow.{act, tab, on, follows, Followed, followed, ends-accept, ends-wrong, never-broken}
@@ -41,10 +42,10 @@ unsettled l r h₁ h₂ h₃ h₄ =
       names-end = λ s _. absurd (h₄ s);
     }
 
--- the place counts the shifts
-place-count : (t l st la : List ℕ) (a : ℕ) {o : Outcome} (fd : Finished t l a (start st la) (0 ∷ []) l [] o) → o .final .position + length (fd .productions) ≡ fd .steps
+-- the position counts the shifts
+position-count : (t l st la : List ℕ) (a : ℕ) {o : Outcome} (fd : Finished t l a (start st la) (0 ∷ []) l [] o) → o .final .position + length (fd .productions) ≡ fd .steps
 unfolding start
-place-count t l st la a fd = let c = fd .count in let p = fd .places in let m = fd .holds .many in omega (arith, c, p, m)
+position-count t l st la a fd = let c = fd .count in let p = fd .places in let m = fd .holds .many in omega (arith, c, p, m)
 
 -- how a run that was not refused ends
 pub data Ended (g : Grammar) (l : List ℕ) (i : ℕ) (p : List ℕ) : ℕ → Type 0 where
@@ -55,12 +56,12 @@ pub data Ended (g : Grammar) (l : List ℕ) (i : ℕ) (p : List ℕ) : ℕ → T
   out-34 : Ended g l i p 34
 
 module _ (g : Grammar) (f : Formed g) (pr : AllProductive g) (li : Limits g) (t : List ℕ) (tm : TableMeans g t) where
-  pub ended : {l : List ℕ} → Symbols g.terminals l → {k sr lr n e steps : ℕ} {qs x out : List ℕ} → Steps t steps (conf (0 ∷ []) l []) (conf qs x out) → Why t k sr lr qs x out n e
+  pub ended : {l : List ℕ} → Symbols g.terminals l → {k sr lr n e steps : ℕ} {qs x out : List ℕ} → Steps t steps (conf (0 ∷ []) l []) (conf qs x out) → Stops t k sr lr qs x out n e
       → (i : ℕ) → i + length out ≡ steps → Ended g l i out n
   ended {l} m {n = n} {steps = steps} {qs = qs} {x = x} {out = out} mv w i hi = go (follows g f pr li t tm mv [] l [] refl (Items.by-item (Items.with-lookahead Items.start)) m) refl
     where
       finish : {γ qs x out : List ℕ} → Runs.Run g (act g f pr li t tm) [] l out γ x → Items.Viable g γ → Symbols g.terminals x → qs ≡ on g f pr li t tm γ → i + length x ≡ length l
-          → {k sr lr n e : ℕ} → Why t k sr lr qs x out n e → Ended g l i out n
+          → {k sr lr n e : ℕ} → Stops t k sr lr qs x out n e → Ended g l i out n
       finish {γ} s v mx eq ei (accepted-here h _) =
           let a = accepted g f (act g f pr li t tm) (tab g f pr li t tm) m s (ends-accept g f pr li t tm γ mx eq h refl) in
           sentence (a .sentence) (a .derivation) (a .only)
@@ -121,7 +122,7 @@ module _ (g : Grammar) (f : Formed g) (pr : AllProductive g) (li : Limits g) (t 
       read m rd =
           let fd = rd .finished in
           demand-of l (reading t l st la a) (number-is rd) (λ e. position-is rd (number-is rd ∙ e)) (productions-are rd)
-          (ended m (steps-of t (fd .path)) (fd .why) (rd .outcome .final .position) (place-count t l st la a fd))
+          (ended m (steps-of t (fd .path)) (fd .why) (rd .outcome .final .position) (position-count t l st la a fd))
 
       go : {n : ℕ} → Refusal g f li t tm l (length st) n → refusalOf t l (length st) ≡ n → Demand3 g l (reading t l st la a)
       go (input-long h) e = stopped 25 e (omega arith) (omega arith)

@@ -11,6 +11,7 @@ use native.Mathlib.Decide.{decLt, ℕ-discrete}
 use Rattle.machine.specs.LrMachine.{peek, rest}
 use Rattle.tables.specs.Layout.{cellOf, leftOf, lengthOf}
 use Rattle.machine.specs.Machine.{Machine, Next, ended, moved, accepted, popped, topOf, actionOf, shifted, reducedTo, reduced, movedBy, Outcome, after, run}
+use Rattle.machine.specs.Faithful.{Stops, accepted-here, wrong-here, no-steps, list-full, broken-here, stack-full}
 use Rattle.machine.proofs.LrMachineLaws.{Kind, kind, is-wrong, is-shift, is-accept, is-reduce, conf, Step, StepsIn, pops-all, no-next, Ends, accepts, wrong, broken}
 
 -- the used places of both areas and the place in the input l hold a configuration
@@ -23,11 +24,11 @@ pub record Holds (l : List ℕ) (m : Machine) (qs x out : List ℕ) : Type 0 whe
   pub room : m .listed ≤ length (m .list)
   pub lookahead : drop (m .position) l ≡ x
 
-pub look-drop : (i : ℕ) (l : List ℕ) → peek (drop i l) ≡ getD l i 0
-look-drop zero [] = refl
-look-drop zero (a ∷ l) = refl
-look-drop (suc i) [] = refl
-look-drop (suc i) (a ∷ l) = look-drop i l
+pub peek-drop : (i : ℕ) (l : List ℕ) → peek (drop i l) ≡ getD l i 0
+peek-drop zero [] = refl
+peek-drop zero (a ∷ l) = refl
+peek-drop (suc i) [] = refl
+peek-drop (suc i) (a ∷ l) = peek-drop i l
 
 pub rest-drop : (i : ℕ) (l : List ℕ) → rest (drop i l) ≡ drop (i + 1) l
 rest-drop zero [] = refl
@@ -73,15 +74,6 @@ foldTo r n d s m = record { stack = set (popped (m .stack) (m .depth) n) d s; li
 abbrev acceptTo : Machine → Machine
 acceptTo m = record { stack = m .stack; list = m .list; depth = m .depth; listed = m .listed; position = m .position; steps = m .steps + 1 }
 
--- why a run stops, with k steps, sr places of the stack area and lr of the list area to it: at which configuration, with which number, after how many last steps
-pub data Why (t : List ℕ) (k sr lr : ℕ) : List ℕ → List ℕ → List ℕ → ℕ → ℕ → Type 0 where
-  accepted-here : {qs x out : List ℕ} → Ends t (conf qs x out) 0 → 0 < k → Why t k sr lr qs x out 0 1
-  wrong-here : {qs x out : List ℕ} → Ends t (conf qs x out) 31 → Why t k sr lr qs x out 31 0
-  no-steps : {qs x out : List ℕ} → (Ends t (conf qs x out) 31 → ⊥) → k ≡ 0 → Why t k sr lr qs x out 32 0
-  list-full : {q : ℕ} {qs x out : List ℕ} (r : ℕ) → cellOf t q (peek x) ≡ 1024 + r → r ≢ 3072 → 0 < k → length out ≡ lr → Why t k sr lr (q ∷ qs) x out 34 0
-  broken-here : {qs x out : List ℕ} → Ends t (conf qs x out) 35 → 0 < k → length out < lr → Why t k sr lr qs x out 35 0
-  stack-full : {qs x out : List ℕ} (qs′ x′ out′ : List ℕ) → Step t (conf qs x out) (conf qs′ x′ out′) → 0 < k → length out′ ≤ lr → length qs′ ≡ suc sr → Why t k sr lr qs x out 33 0
-
 pub record Finished (t l : List ℕ) (k : ℕ) (m : Machine) (qs x out : List ℕ) (o : Outcome) : Type 0 where
   pub steps : ℕ
   pub left : ℕ
@@ -96,7 +88,7 @@ pub record Finished (t l : List ℕ) (k : ℕ) (m : Machine) (qs x out : List �
   pub places : o .final .position + o .final .listed + m .steps + extra ≡ m .position + m .listed + o .final .steps
   pub stack-size : length (o .final .stack) ≡ length (m .stack)
   pub list-size : length (o .final .list) ≡ length (m .list)
-  pub why : Why t left (length (m .stack)) (length (m .list)) states lookahead productions (o .number) extra
+  pub why : Stops t left (length (m .stack)) (length (m .list)) states lookahead productions (o .number) extra
 
 module _ (t l : List ℕ) where
   module _ (m : Machine) {q : ℕ} {qs x out : List ℕ} (h : Holds l m (q ∷ qs) x out) where
@@ -110,7 +102,7 @@ module _ (t l : List ℕ) where
 
     action-of : actionOf t l m ≡ cellOf t q (peek x)
     unfolding actionOf
-    action-of = rw top-of (ap (cellOf t q) (sym (look-drop (m .position) l) ∙ ap peek (h .lookahead)))
+    action-of = rw top-of (ap (cellOf t q) (sym (peek-drop (m .position) l) ∙ ap peek (h .lookahead)))
 
     shift-holds : (s : ℕ) → m .depth < length (m .stack) → Holds l (shiftTo s m) (s ∷ q ∷ qs) (rest x) out
     shift-holds s k =
@@ -235,7 +227,7 @@ module _ (t l : List ℕ) where
       }
 
   -- the end at once
-  here : (k : ℕ) (m : Machine) (n : ℕ) {qs x out : List ℕ} → Holds l m qs x out → Why t k (length (m .stack)) (length (m .list)) qs x out n 0
+  here : (k : ℕ) (m : Machine) (n : ℕ) {qs x out : List ℕ} → Holds l m qs x out → Stops t k (length (m .stack)) (length (m .list)) qs x out n 0
       → Finished t l k m qs x out (record { number = n; final = m })
   here k m n {qs} {x} {out} h w =
       record {

@@ -17,14 +17,15 @@ use Rattle.sets.proofs.TestLaws.{and-left, and-right, all-at, between-at, passe
 use Rattle.machine.specs.Checks.{sizesOk, productionOk, terminalCellOk, cellOk, rowOk, productionsOk, cellsOk, terminalOk, inputOk, refusalOf}
 use Rattle.machine.proofs.LrMachineLaws.{Config, conf, Step, Steps}
 
--- what the checks 22 to 26 leave
-pub record Passed (t l : List ℕ) : Type 0 where
+-- what the checks leave; n is the length of the stack area
+pub record Passed (t l : List ℕ) (n : ℕ) : Type 0 where
   pub sizes : sizesOk t ≡ true
   pub productions : productionsOk t ≡ true
   pub cells : cellsOk t ≡ true
   pub input : inputOk t l ≡ true
+  pub place : 0 < n
 
-pub passed : (t l : List ℕ) (n : ℕ) → refusalOf t l n ≡ 0 → Passed t l
+pub passed : (t l : List ℕ) (n : ℕ) → refusalOf t l n ≡ 0 → Passed t l n
 unfolding refusalOf
 passed t l n e =
     let r26 = unless (inputOk t l) 26 (unless (ltb 0 n) 27 0) in
@@ -38,7 +39,8 @@ passed t l n e =
     let p = passes (productionsOk t) 22 r24 (d .1) in
     let c = passes (cellsOk t) 23 r25 (p .1) in
     let k = passes (leb (length l) 65535) 24 r26 (c .1) in
-    record { sizes = b .0; productions = p .0; cells = c .0; input = passes (inputOk t l) 25 (unless (ltb 0 n) 27 0) (k .1) .0 }
+    let i = passes (inputOk t l) 25 (unless (ltb 0 n) 27 0) (k .1) in
+    record { sizes = b .0; productions = p .0; cells = c .0; input = i .0; place = ltb-true 0 n (passes (ltb 0 n) 26 0 (i .1) .0) }
 
 pub data Below (n : ℕ) : List ℕ → Type 0 where
   none : Below n []
@@ -59,7 +61,7 @@ in-row : (t : List ℕ) {x : ℕ} → x < terminals t → x < width t
 unfolding width
 in-row t h = omega arith
 
-module _ (t l : List ℕ) (pa : Passed t l) where
+module _ (t l : List ℕ) (n : ℕ) (pa : Passed t l n) where
   sizes-are : (1 ≤ states t) × (states t ≤ 256) × (1 ≤ terminals t)
   unfolding sizesOk
   sizes-are =

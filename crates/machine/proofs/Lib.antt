@@ -1,5 +1,5 @@
 pub mod LrMachineLaws
 pub mod Areas
+pub mod Checked
 pub mod ReportLaws
 pub mod Spent
-pub mod Checked

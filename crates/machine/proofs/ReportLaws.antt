@@ -11,7 +11,9 @@ use native.Mathlib.Omega.{arith}
 use native.Mathlib.Decide.{ℕ-discrete}
 use Rattle.machine.specs.Machine.{Outcome, run, start, counts, expected, reportOf}
 use Rattle.machine.specs.Checks.{Reading, reading, refusalOf}
-pub use Rattle.machine.specs.Report.{numberOf, positionOf, stepsOf, productionsOf}
+pub use Rattle.machine.specs.Report.{numberOf, positionOf, stepsOf, depthOf, productionsOf}
+use Rattle.machine.specs.Faithful.{Stops, Faithful}
+use Rattle.machine.proofs.Checked.{passed}
 use Rattle.machine.proofs.LrMachineLaws.{conf, Steps, steps-of}
 use Rattle.machine.proofs.Areas.{Holds, Finished, finishes}
 
@@ -33,6 +35,18 @@ start-holds l st li h =
       room = omega arith;
       lookahead = refl;
     }
+
+start-stack : (st li : List ℕ) → length (start st li .stack) ≡ length st
+unfolding start
+start-stack st li = length-set st 0 0
+
+start-list : (st li : List ℕ) → length (start st li .list) ≡ length li
+unfolding start
+start-list st li = refl
+
+-- 27: some place is lent for the stack
+some-place : (t l : List ℕ) (n : ℕ) → refusalOf t l n ≡ 0 → 0 < n
+some-place t l n e = passed t l n e .place
 
 pub reads : (t l st li : List ℕ) (a : ℕ) → 0 < length st → refusalOf t l (length st) ≡ 0 → Read t l st li a (reading t l st li a)
 unfolding reading
@@ -56,6 +70,9 @@ module _ {t l st li : List ℕ} {a : ℕ} {r : Reading} (rd : Read t l st li a r
   report-is : r .report ≡ reportOf t (rd .outcome)
   report-is = ap (λ (z : Reading). z .report) (rd .shown)
 
+  stack-is : r .stack ≡ rd .outcome .final .stack
+  stack-is = ap (λ (z : Reading). z .stack) (rd .shown)
+
   list-is : r .list ≡ rd .outcome .final .list
   list-is = ap (λ (z : Reading). z .list) (rd .shown)
 
@@ -70,6 +87,10 @@ module _ {t l st li : List ℕ} {a : ℕ} {r : Reading} (rd : Read t l st li a r
   pub steps-is : stepsOf r ≡ rd .outcome .final .steps
   unfolding reportOf
   steps-is = rw report-is refl
+
+  depth-is : depthOf r ≡ rd .outcome .final .depth
+  unfolding reportOf
+  depth-is = rw report-is refl
 
   listed-is : getD (r .report) 3 0 ≡ rd .outcome .final .listed
   unfolding reportOf
@@ -86,3 +107,30 @@ module _ {t l st li : List ℕ} {a : ℕ} {r : Reading} (rd : Read t l st li a r
 
   pub machine-steps : Steps t (rd .finished .steps) (conf (0 ∷ []) l []) (conf (rd .finished .states) (rd .finished .lookahead) (rd .finished .productions))
   machine-steps = steps-of t (rd .finished .path)
+
+-- the whole of it
+pub faithful : (t l st li : List ℕ) (a : ℕ) → refusalOf t l (length st) ≡ 0 → Faithful t l st li a (reading t l st li a)
+faithful t l st li a e = go (reads t l st li a (some-place t l (length st) e) e)
+  where
+    go : {r : Reading} → Read t l st li a r → Faithful t l st li a r
+    go rd =
+        let fd = rd .finished in
+        record {
+          steps = fd .steps;
+          states = fd .states;
+          ahead = fd .lookahead;
+          productions = fd .productions;
+          path = machine-steps rd;
+          left = fd .left;
+          budget = fd .budget;
+          own = fd .extra;
+          why = rw (number-is rd) (areas-kept st li (fd .why));
+          count = count-is rd;
+          listed = productions-are rd;
+          stacked = rw (depth-is rd, stack-is rd) (fd .holds .used);
+          depth = rw (depth-is rd) (fd .holds .deep);
+          position = λ z. rw (position-is rd z) (fd .holds .lookahead);
+        }
+      where
+        areas-kept : (st li : List ℕ) {k n e : ℕ} {qs x out : List ℕ} → Stops t k (length (start st li .stack)) (length (start st li .list)) qs x out n e → Stops t k (length st) (length li) qs x out n e
+        areas-kept st li s = rw (start-stack st li, start-list st li) at s

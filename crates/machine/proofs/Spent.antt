@@ -8,7 +8,7 @@ use Rattle.tables.specs.Layout.{lengthOf}
 use Rattle.machine.specs.Machine.{start}
 use Rattle.machine.specs.Checks.{Reading}
 use Rattle.machine.proofs.LrMachineLaws.{conf, Step}
-use Rattle.machine.proofs.Areas.{Why, accepted-here, wrong-here, no-steps, list-full, broken-here, stack-full}
+use Rattle.machine.specs.Faithful.{Stops, accepted-here, wrong-here, no-steps, list-full, broken-here, stack-full}
 use Rattle.machine.proofs.ReportLaws.{numberOf, stepsOf, Read, number-is, count-is}
 
 -- a step pushes at most one place more than there are
@@ -22,7 +22,7 @@ push-one {t} (Step.reduce {q} {qs} r p ps s e n d f h) = let z = ap length d in 
     shorter (suc n) (q ∷ qs) = let h = shorter n qs in omega arith
 
 module _ {t l st li : List ℕ} {a : ℕ} {r : Reading} (rd : Read t l st li a r) where
-  all-steps : {k sr lr n e : ℕ} {qs x out : List ℕ} → Why t k sr lr qs x out n e → n ≡ 32 → (k ≡ 0) × (e ≡ 0)
+  all-steps : {k sr lr n e : ℕ} {qs x out : List ℕ} → Stops t k sr lr qs x out n e → n ≡ 32 → (k ≡ 0) × (e ≡ 0)
   all-steps (accepted-here _ _) z = absurd (omega arith)
   all-steps (wrong-here _) z = absurd (omega arith)
   all-steps (no-steps _ k) z = (k, refl)
@@ -30,7 +30,7 @@ module _ {t l st li : List ℕ} {a : ℕ} {r : Reading} (rd : Read t l st li a r
   all-steps (broken-here _ _ _) z = absurd (omega arith)
   all-steps (stack-full _ _ _ _ _ _ _) z = absurd (omega arith)
 
-  all-stack : {k sr lr n e : ℕ} {qs x out : List ℕ} → Why t k sr lr qs x out n e → n ≡ 33 → sr ≤ length qs
+  all-stack : {k sr lr n e : ℕ} {qs x out : List ℕ} → Stops t k sr lr qs x out n e → n ≡ 33 → sr ≤ length qs
   all-stack (accepted-here _ _) z = absurd (omega arith)
   all-stack (wrong-here _) z = absurd (omega arith)
   all-stack (no-steps _ _) z = absurd (omega arith)
@@ -38,7 +38,7 @@ module _ {t l st li : List ℕ} {a : ℕ} {r : Reading} (rd : Read t l st li a r
   all-stack (broken-here _ _ _) z = absurd (omega arith)
   all-stack (stack-full _ _ _ s _ _ e) z = let h = push-one s in omega (arith, h, e)
 
-  all-list : {k sr lr n e : ℕ} {qs x out : List ℕ} → Why t k sr lr qs x out n e → n ≡ 34 → length out ≡ lr
+  all-list : {k sr lr n e : ℕ} {qs x out : List ℕ} → Stops t k sr lr qs x out n e → n ≡ 34 → length out ≡ lr
   all-list (accepted-here _ _) z = absurd (omega arith)
   all-list (wrong-here _) z = absurd (omega arith)
   all-list (no-steps _ _) z = absurd (omega arith)

@@ -12,6 +12,10 @@ numberOf r = getD (r .report) 0 0
 abbrev pub stepsOf : Reading → ℕ
 stepsOf r = getD (r .report) 1 0
 
+-- the stack places in use
+abbrev pub depthOf : Reading → ℕ
+depthOf r = getD (r .report) 2 0
+
 -- the productions listed: the used places of the list, from place 0
 abbrev pub productionsOf : Reading → List ℕ
 productionsOf r = take (getD (r .report) 3 0) (r .list)
