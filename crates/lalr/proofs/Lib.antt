@@ -16,3 +16,4 @@ pub mod TableLaws
 pub mod Main
 pub mod AreaLaws
 pub mod OrderLaws
+pub mod Finish
