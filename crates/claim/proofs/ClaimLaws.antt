@@ -110,7 +110,7 @@ module _ (g : Grammar) (f : Formed g) (pr : AllProductive g) (li : Limits g) (t 
 
   -- the claim
   pub demand-3 : (l st la : List ℕ) (a : ℕ) → Demand3 g l (reading t l st la a)
-  demand-3 l st la a = go (refusals g f li t tm l (length st)) refl
+  demand-3 l st la a = go (refusals g f pr li t tm l (length st)) refl
     where
       stopped : (n : ℕ) → refusalOf t l (length st) ≡ n → 25 ≤ n → n ≤ 27 → Demand3 g l (reading t l st la a)
       stopped n e h k =
@@ -124,7 +124,7 @@ module _ (g : Grammar) (f : Formed g) (pr : AllProductive g) (li : Limits g) (t 
           demand-of l (reading t l st la a) (number-is rd) (λ e. position-is rd (number-is rd ∙ e)) (productions-are rd)
           (ended m (steps-of t (fd .path)) (fd .why) (rd .outcome .final .position) (position-count t l st la a fd))
 
-      go : {n : ℕ} → Refusal g f li t tm l (length st) n → refusalOf t l (length st) ≡ n → Demand3 g l (reading t l st la a)
+      go : {n : ℕ} → Refusal g f pr li t tm l (length st) n → refusalOf t l (length st) ≡ n → Demand3 g l (reading t l st la a)
       go (input-long h) e = stopped 25 e (omega arith) (omega arith)
       go (no-terminal h k) e = stopped 26 e (omega arith) (omega arith)
       go (no-stack h k z) e = stopped 27 e (omega arith) (omega arith)

@@ -13,18 +13,20 @@ use Rattle.machine.specs.LrMachine.{peek, rest}
 use Rattle.lr.proofs.Runs.{Act, shift, reduce, accept, wrong}
 use Rattle.lr.proofs.ItemLaws.{AllProductive, after-positive}
 use Rattle.lr.proofs.Automaton.{goes, walk, walk-snoc, table, has-of}
+use Rattle.lr.specs.Cells.{Action}
+use Rattle.lr.proofs.Paths.{Has}
 use Rattle.lr.proofs.MachineLaws.{after-viable, reduction, Reducible, reducible}
 use Rattle.lr.proofs.ErrorPosition.{top, stack, stack-snoc, stack-top, stack-pop}
 use Rattle.tables.specs.Layout.{states, terminals, productions, cellOf, leftOf, lengthOf}
 use Rattle.machine.proofs.LrMachineLaws.{Config, conf, Step, Steps, Broken, pops-all, no-next, Ends, accepts, broken}
-use Rattle.claim.proofs.Means.{Acts, Limits, TableMeans, cells, actionAt, action-below, decode, decode-shift, decode-reduce, decode-accept, decode-wrong, coded, shift-code, reduce-code}
+use Rattle.claim.proofs.Means.{Limits, TableMeans, automaton, cells, actionAt, action-below, decode, decode-shift, decode-reduce, decode-accept, decode-wrong, coded, shift-code, reduce-code}
 
 module _ (g : Grammar) (f : Formed g) (pr : AllProductive g) (li : Limits g) (t : List ℕ) (tm : TableMeans g t) where
   abbrev pub act : List ℕ → ℕ → Act
   act γ m = actionAt t (walk tm.next 0 γ) m
 
   abbrev pub tab : Runs.Table g act
-  tab = table g f pr (states t) tm.has tm.next tm.automaton (actionAt t) (cells g f li t tm)
+  tab = table g f pr (states t) (Has g tm.next) tm.next (automaton g f pr li t tm) (actionAt t) (cells g f pr li t tm)
 
   -- the states of a path, from the top down
   abbrev pub on : List ℕ → List ℕ
@@ -41,7 +43,7 @@ module _ (g : Grammar) (f : Formed g) (pr : AllProductive g) (li : Limits g) (t 
   top-walk γ e = ap top e ∙ stack-top tm.next 0 γ []
 
   pub after-steps : {γ : List ℕ} {x : ℕ} → Runs.After g γ x → (walk tm.next 0 γ < states t) × (tm.next (walk tm.next 0 γ) x ≢ 0)
-  after-steps (Runs.dot-before (Items.with-lookahead i) e) = let h = has-of g f pr (states t) tm.has tm.next tm.automaton i in (h .0, tm.automaton .next-some (h .0) .1 (goes (h .1) e))
+  after-steps (Runs.dot-before (Items.with-lookahead i) e) = let h = has-of g f pr (states t) (Has g tm.next) tm.next (automaton g f pr li t tm) i in (h .0, automaton g f pr li t tm .next-some (h .0) .1 (goes (h .1) e))
 
   -- where the LR machine has come from a path's configuration, a run along paths has come by as many steps
   pub data Followed (γ x out : List ℕ) (n : ℕ) : Config → Type 0 where
@@ -78,7 +80,7 @@ module _ (g : Grammar) (f : Formed g) (pr : AllProductive g) (li : Limits g) (t 
       go (Symbols.more {a} {w} h k m) ea ec =
           let af = tab.shift-from v ea .1 in
           let am = after-steps af in
-          let es : s ≡ walk tm.next 0 (γ ++ a ∷ []) = sym ec ∙ ap (λ (z : ℕ). cellOf t z a) (top-walk γ e) ∙ tm.in-cell (am .0) k (Acts.shifts (am .1)) ∙ sym (walk-snoc tm.next 0 γ a) in
+          let es : s ≡ walk tm.next 0 (γ ++ a ∷ []) = sym ec ∙ ap (λ (z : ℕ). cellOf t z a) (top-walk γ e) ∙ tm.in-cell (am .0) k (Action.shifts k (am .1)) ∙ sym (walk-snoc tm.next 0 γ a) in
           let eo : on (γ ++ a ∷ []) ≡ s ∷ q ∷ qs′ = stack-snoc tm.next 0 γ [] a ∙ ap (λ (z : ℕ). z ∷ on γ) (sym es) ∙ ap (λ (z : List ℕ). s ∷ z) (sym e) in
           let z : Stepped γ (a ∷ w) out (conf (on (γ ++ a ∷ [])) w out) = shifted refl ea (after-viable g f act tab af) m in
           rw eo at z
@@ -137,7 +139,7 @@ module _ (g : Grammar) (f : Formed g) (pr : AllProductive g) (li : Limits g) (t 
       let af = tab.shift-from v ea in
       let am = after-steps (af .1) in
       let c = shift-code (coded (cellOf t (walk tm.next 0 γ) m)) (sym (act-is γ mk) ∙ ea) in
-      let es : cellOf t (walk tm.next 0 γ) m ≡ walk tm.next 0 (γ ++ m ∷ []) = tm.in-cell (am .0) (af .0) (Acts.shifts (am .1)) ∙ sym (walk-snoc tm.next 0 γ m) in
+      let es : cellOf t (walk tm.next 0 γ) m ≡ walk tm.next 0 (γ ++ m ∷ []) = tm.in-cell (am .0) (af .0) (Action.shifts (af .0) (am .1)) ∙ sym (walk-snoc tm.next 0 γ m) in
       let s : Step t (conf (walk tm.next 0 γ ∷ o .0) (m ∷ x) out) (conf (cellOf t (walk tm.next 0 γ) m ∷ walk tm.next 0 γ ∷ o .0) x out) = Step.shift (cellOf t (walk tm.next 0 γ) m) refl (c .0) (c .1) in
       rw (stack-snoc tm.next 0 γ [] m) (rw (← o .1, es) at s)
 

@@ -8,17 +8,14 @@ use native.Mathlib.Omega.{arith}
 use native.Mathlib.Decide.{decLt}
 use Rattle.grammar.specs.Grammar.{Grammar, Formed}
 use Rattle.lr.proofs.Runs.{Act, shift, reduce, accept, wrong}
-use Rattle.lr.proofs.ItemLaws.{lookahead-terminal}
-use Rattle.lr.proofs.Automaton.{Automaton, Cells, Lookahead}
+use Rattle.lr.specs.Items
+use Rattle.lr.specs.States.{States}
+use Rattle.lr.specs.Cells.{Action, shifts, reduces, accepts}
+use Rattle.lr.proofs.ItemLaws.{AllProductive, lookahead-terminal, added-end}
+use Rattle.lr.proofs.Paths.{Has, state-automaton}
+use Rattle.lr.proofs.Automaton.{Automaton, Cells, Lookahead, walk}
 use Rattle.tables.specs.Layout.{states, terminals, nonterminals, productions, cellOf, leftOf, lengthOf, sizeOf}
 use Rattle.machine.proofs.LrMachineLaws.{Kind, kind, is-wrong, is-shift, is-accept, is-reduce}
-
-module _ (g : Grammar) (has : ℕ → ℕ → ℕ → Type 0) (next : ℕ → ℕ → ℕ) where
-  -- the cell values of the actions of state q under terminal m; two of them that differ are a conflict
-  pub data Acts (q m : ℕ) : ℕ → Type 0 where
-    shifts : next q m ≢ 0 → Acts q m (next q m)
-    reduces : (r : ℕ) → r < g.productions → Lookahead g next q r m → Acts q m (1024 + r)
-    accepts : m ≡ 0 → has q g.productions 1 → Acts q m 4096
 
 -- the limits of sizes
 pub record Limits (g : Grammar) : Type 0 where
@@ -28,11 +25,9 @@ pub record Limits (g : Grammar) : Type 0 where
   pub productions-most : g.productions ≤ 128
   pub length-most : (r : ℕ) → r < g.productions → length (g.right r) ≤ 512
 
-pub record TableMeans (g : Grammar) (t : List ℕ) : Type 1 where
-  pub has : ℕ → ℕ → ℕ → Type 0
+pub record TableMeans (g : Grammar) (t : List ℕ) : Type 0 where
   pub next : ℕ → ℕ → ℕ
-  pub automaton : Automaton g (states t) has next
-  pub items : {q r d : ℕ} → has q r d → r ≤ g.productions
+  pub numbered : States g (states t) next
   pub states-most : states t ≤ 256
   pub terminals-are : terminals t ≡ g.terminals
   pub nonterminals-are : nonterminals t ≡ g.nonterminals
@@ -40,8 +35,8 @@ pub record TableMeans (g : Grammar) (t : List ℕ) : Type 1 where
   pub whole : sizeOf t ≤ length t
   pub lefts : (r : ℕ) → r < g.productions → leftOf t r ≡ g.left r
   pub lengths : (r : ℕ) → r < g.productions → lengthOf t r ≡ length (g.right r)
-  pub in-cell : {q m v : ℕ} → q < states t → m < g.terminals → Acts g has next q m v → cellOf t q m ≡ v
-  pub from-cell : {q m : ℕ} → q < states t → m < g.terminals → cellOf t q m ≢ 0 → Acts g has next q m (cellOf t q m)
+  pub in-cell : {q m v : ℕ} → q < states t → m < g.terminals → Action g next q m v → cellOf t q m ≡ v
+  pub from-cell : {q m : ℕ} → q < states t → m < g.terminals → cellOf t q m ≢ 0 → Action g next q m (cellOf t q m)
   pub nonterminal-cell : {q x : ℕ} → q < states t → g.terminals ≤ x → x < g.terminals + g.nonterminals → cellOf t q x ≡ next q x
 
 -- the action that a number stands for
@@ -159,7 +154,26 @@ accept-code (code-shift h k) e = let z : _≡_ {A = ℕ} 0 1 = cc in absurd (ome
 accept-code code-accept e = refl
 accept-code (code-reduce n) e = let z : _≡_ {A = ℕ} 0 1 = cc in absurd (omega arith)
 
-module _ (g : Grammar) (f : Formed g) (li : Limits g) (t : List ℕ) (tm : TableMeans g t) where
+-- the lookahead of the added production's complete item is the end marker
+module _ (g : Grammar) (f : Formed g) (next : ℕ → ℕ → ℕ) where
+  added-lookahead : {q m : ℕ} → m ≡ 0 → Has g next q g.productions 1 → Lookahead g next q g.productions m
+  added-lookahead {q} {m} e h = go (h .path) (h .leads) (h .item)
+    where
+      go : (γ : List ℕ) → walk next 0 γ ≡ q → Items.Item g γ g.productions 1 → Lookahead g next q g.productions m
+      go γ el (Items.with-lookahead {a} i) =
+          let ea : a ≡ m = added-end g refl i ∙ sym e in
+          let n : length (g.right g.productions) ≡ 1 = ap length (f.added) in
+          record { path = γ; leads = el; item = rw n (rw ea at i) }
+
+  pub lookahead-added : {q m : ℕ} → Lookahead g next q g.productions m → (m ≡ 0) × Has g next q g.productions 1
+  lookahead-added a =
+      let n : length (g.right g.productions) ≡ 1 = ap length (f.added) in
+      (added-end g refl (a .item), record { path = a .path; leads = a .leads; item = Items.with-lookahead (rw n at (a .item)) })
+
+module _ (g : Grammar) (f : Formed g) (pr : AllProductive g) (li : Limits g) (t : List ℕ) (tm : TableMeans g t) where
+  pub automaton : Automaton g (states t) (Has g tm.next) tm.next
+  automaton = state-automaton g f pr (states t) tm.next tm.numbered
+
   below : {m : ℕ} → m < terminals t → m < g.terminals
   below h = rw tm.terminals-are at h
 
@@ -167,10 +181,10 @@ module _ (g : Grammar) (f : Formed g) (li : Limits g) (t : List ℕ) (tm : Table
   above h = rw tm.terminals-are h
 
   next-most : (q x : ℕ) → q < states t → tm.next q x < 256
-  next-most q x h = let k = tm.automaton .next-below {q = q} {x = x} h in let k′ = tm.states-most in omega arith
+  next-most q x h = let k = automaton .next-below {q = q} {x = x} h in let k′ = tm.states-most in omega arith
 
   -- the cells of a table that means a grammar are those of its automaton
-  pub cells : Cells g (states t) tm.has tm.next (actionAt t)
+  pub cells : Cells g (states t) (Has g tm.next) tm.next (actionAt t)
   cells =
       record {
         shifts = λ {q} {m} h. (λ e. to-shift q m h e, λ p. from-shift q m h (p .0) (p .1));
@@ -184,14 +198,14 @@ module _ (g : Grammar) (f : Formed g) (li : Limits g) (t : List ℕ) (tm : Table
           let c = shift-code (coded (cellOf t q m)) (sym (action-below t q m b) ∙ e) in
           (below b, go (tm.from-cell h (below b) (omega arith)) (c .0) (c .1))
         where
-          go : {v : ℕ} → Acts g tm.has tm.next q m v → 0 < v → v < 1024 → tm.next q m ≢ 0
-          go (shifts z) _ _ = z
+          go : {v : ℕ} → Action g tm.next q m v → 0 < v → v < 1024 → tm.next q m ≢ 0
+          go (shifts k z) _ _ = z
           go (reduces r k a) h k′ = absurd (omega arith)
-          go (accepts k a) h k′ = absurd (omega arith)
+          go (accepts a) h k′ = absurd (omega arith)
 
       from-shift : (q m : ℕ) → q < states t → m < g.terminals → tm.next q m ≢ 0 → actionAt t q m ≡ shift
       from-shift q m h k z =
-          let e = tm.in-cell h k (shifts z) in
+          let e = tm.in-cell h k (shifts k z) in
           let n = next-most q m h in
           action-below t q m (above k) ∙ decode-shift (cellOf t q m) (omega (arith, z)) (omega arith)
 
@@ -201,10 +215,10 @@ module _ (g : Grammar) (f : Formed g) (li : Limits g) (t : List ℕ) (tm : Table
           let c = reduce-code (coded (cellOf t q m)) (sym (action-below t q m b) ∙ e) in
           go (tm.from-cell h (below b) (omega (arith, c .0))) (c .0) (c .1)
         where
-          go : {v : ℕ} → Acts g tm.has tm.next q m v → v ≡ 1024 + r → r ≢ 3072 → (r < g.productions) × Lookahead g tm.next q r m
-          go (shifts z) c n = absurd (let k = next-most q m h in omega arith)
+          go : {v : ℕ} → Action g tm.next q m v → v ≡ 1024 + r → r ≢ 3072 → (r < g.productions) × Lookahead g tm.next q r m
+          go (shifts k z) c n = absurd (let k = next-most q m h in omega arith)
           go (reduces r′ k a) c n = let z : r′ ≡ r = omega arith in let p : (r′ < g.productions) × Lookahead g tm.next q r′ m = (k, a) in rw z at p
-          go (accepts k a) c n = absurd (n (omega arith))
+          go (accepts a) c n = absurd (n (omega arith))
 
       from-reduce : (q m r : ℕ) → q < states t → r < g.productions → Lookahead g tm.next q r m → actionAt t q m ≡ reduce r
       from-reduce q m r h k a =
@@ -212,18 +226,18 @@ module _ (g : Grammar) (f : Formed g) (li : Limits g) (t : List ℕ) (tm : Table
           let n = li.productions-most in
           action-below t q m (above b) ∙ decode-reduce (cellOf t q m) r (omega arith) (tm.in-cell h b (reduces r k a))
 
-      to-accept : (q m : ℕ) → q < states t → actionAt t q m ≡ accept → (m ≡ 0) × tm.has q g.productions 1
+      to-accept : (q m : ℕ) → q < states t → actionAt t q m ≡ accept → (m ≡ 0) × Has g tm.next q g.productions 1
       to-accept q m h e =
           let b = action-some t q m (not-wrong-a e) in
           let c = accept-code (coded (cellOf t q m)) (sym (action-below t q m b) ∙ e) in
           go (tm.from-cell h (below b) (omega (arith, c))) c
         where
-          go : {v : ℕ} → Acts g tm.has tm.next q m v → v ≡ 4096 → (m ≡ 0) × tm.has q g.productions 1
-          go (shifts z) c = absurd (let k = next-most q m h in omega arith)
+          go : {v : ℕ} → Action g tm.next q m v → v ≡ 4096 → (m ≡ 0) × Has g tm.next q g.productions 1
+          go (shifts k z) c = absurd (let k = next-most q m h in omega arith)
           go (reduces r k a) c = absurd (let n = li.productions-most in omega arith)
-          go (accepts k a) c = (k, a)
+          go (accepts a) c = lookahead-added g f tm.next a
 
-      from-accept : (q m : ℕ) → q < states t → m ≡ 0 → tm.has q g.productions 1 → actionAt t q m ≡ accept
+      from-accept : (q m : ℕ) → q < states t → m ≡ 0 → Has g tm.next q g.productions 1 → actionAt t q m ≡ accept
       from-accept q m h e a =
           let b : m < g.terminals = rw e (f.end-marker) in
-          action-below t q m (above b) ∙ decode-accept (cellOf t q m) (tm.in-cell h b (accepts e a))
+          action-below t q m (above b) ∙ decode-accept (cellOf t q m) (tm.in-cell h b (accepts (added-lookahead g f tm.next e a)))

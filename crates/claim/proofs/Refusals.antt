@@ -10,33 +10,18 @@ use borrow.Author.Tests.{lt-ltb, le-ltb, le-leb, ne-eqb, ltb-true, ltb-false, le
 use native.Mathlib.Omega.{arith}
 use native.Mathlib.Decide.{decLt, ℕ-discrete}
 use Rattle.grammar.specs.Grammar.{Grammar, Formed, Symbols, none, more}
+use Rattle.lr.specs.Cells.{Action, shifts, reduces, accepts}
+use Rattle.lr.proofs.ItemLaws.{AllProductive, after-positive}
+use Rattle.lr.proofs.Runs
 use Rattle.lr.proofs.Automaton.{Goes, goes}
+use Rattle.lr.proofs.Paths.{Has}
 use Rattle.tables.specs.Layout.{states, terminals, nonterminals, productions, width, cellOf, leftOf, lengthOf, sizeOf}
 use Rattle.machine.specs.Checks.{sizesOk, productionOk, terminalCellOk, cellOk, rowOk, productionsOk, cellsOk, terminalOk, inputOk, refusalOf}
 use Rattle.sets.specs.Tests.{unless}
 use Rattle.sets.proofs.TestLaws.{and-true, and-left, and-right, all-true, all-at, between-true}
-use Rattle.claim.proofs.Means.{Acts, shifts, reduces, accepts, Limits, TableMeans}
+use Rattle.claim.proofs.Means.{Limits, TableMeans, automaton, lookahead-added}
 
--- a symbol of a right side is not the end marker
-dot-positive : (g : Grammar) (f : Formed g) (r d : ℕ) {x : ℕ} {β : List ℕ} → r ≤ g.productions → drop d (g.right r) ≡ x ∷ β → 0 < x
-dot-positive g f r d {x} {β} h e = go (decLt r g.productions)
-  where
-    dropped : (d : ℕ) {n : ℕ} {l : List ℕ} → Symbols n l → Symbols n (drop d l)
-    dropped zero s = s
-    dropped (suc d) none = none
-    dropped (suc d) (more h k s) = dropped d s
-
-    head : {n : ℕ} → Symbols n (x ∷ β) → 0 < x
-    head (more h k s) = h
-
-    all : r ≡ g.productions → Symbols (g.terminals + g.nonterminals) (g.right r)
-    all z = rw (z, f.added) (more (f.end-marker) (omega (arith, f.start-nonterminal)) none)
-
-    go : Dec (r < g.productions) → 0 < x
-    go (yes k) = head (rw e at (dropped d (f.right-symbols r k)))
-    go (no k) = head (rw e at (dropped d (all (omega (arith, k)))))
-
-module _ (g : Grammar) (f : Formed g) (li : Limits g) (t : List ℕ) (tm : TableMeans g t) where
+module _ (g : Grammar) (f : Formed g) (pr : AllProductive g) (li : Limits g) (t : List ℕ) (tm : TableMeans g t) where
   width-means : width t ≡ g.terminals + g.nonterminals
   unfolding width
   width-means = rw (tm.terminals-are, tm.nonterminals-are)
@@ -44,7 +29,7 @@ module _ (g : Grammar) (f : Formed g) (li : Limits g) (t : List ℕ) (tm : Table
   sizes-ok : sizesOk t ≡ true
   unfolding sizesOk
   sizes-ok =
-      and-true (between-true 1 256 (states t) (tm.automaton .some-state) (tm.states-most))
+      and-true (between-true 1 256 (states t) (automaton g f pr li t tm .some-state) (tm.states-most))
       (and-true (between-true 1 64 (terminals t) (rw tm.terminals-are (f.end-marker)) (rw tm.terminals-are (li.terminals-most)))
       (and-true (between-true 1 60 (nonterminals t) (rw tm.nonterminals-are (f.start-nonterminal)) (rw tm.nonterminals-are (li.nonterminals-most)))
       (between-true 1 128 (productions t) (rw tm.productions-are (li.productions-least)) (rw tm.productions-are (li.productions-most)))))
@@ -60,23 +45,23 @@ module _ (g : Grammar) (f : Formed g) (li : Limits g) (t : List ℕ) (tm : Table
           and-true (and-true (le-leb (terminals t) (leftOf t r) (rw (tm.terminals-are, el) (f.left-nonterminal r h))) (lt-ltb (leftOf t r) (width t) (rw (width-means, el) (f.left-below r h))))
           (le-leb (lengthOf t r) 512 (rw en (li.length-most r h)))
 
-  terminal-cell : (q x v : ℕ) → q < states t → Acts g tm.has tm.next q x v → v ≢ 0 → terminalCellOk t x v ≡ true
+  terminal-cell : (q x v : ℕ) → q < states t → Action g tm.next q x v → v ≢ 0 → terminalCellOk t x v ≡ true
   unfolding terminalCellOk
   terminal-cell q x v h a nz = go a nz
     where
-      go : {v : ℕ} → Acts g tm.has tm.next q x v → v ≢ 0 → terminalCellOk t x v ≡ true
-      go (shifts z) nz = rw (ne-eqb (tm.next q x) 0 nz, lt-ltb (tm.next q x) (states t) (tm.automaton .next-below h), ne-eqb x 0 (positive (tm.automaton .next-some h .0 z)))
+      go : {v : ℕ} → Action g tm.next q x v → v ≢ 0 → terminalCellOk t x v ≡ true
+      go (shifts k z) nz = rw (ne-eqb (tm.next q x) 0 nz, lt-ltb (tm.next q x) (states t) (automaton g f pr li t tm .next-below h), ne-eqb x 0 (positive (automaton g f pr li t tm .next-some h .0 z)))
         where
-          positive : Goes g (tm.has q) x → x ≢ 0
-          positive (goes {r} {d} i e) = let p = dot-positive g f r d (tm.items i) e in omega arith
+          positive : Goes g (Has g tm.next q) x → x ≢ 0
+          positive (goes i e) = let p = after-positive g f pr (Runs.dot-before (i .item) e) in omega arith
       go (reduces r k b) nz =
           let s = tm.states-most in
           let n = li.productions-most in
           let e : (1024 + r) - 1024 ≡ r = omega arith in
           rw (ne-eqb (1024 + r) 0 nz, le-ltb (1024 + r) (states t) (omega arith), ne-eqb (1024 + r) 4096 (omega arith), le-ltb (1024 + r) 1024 (omega arith), e, tm.productions-are) (lt-ltb r g.productions k)
-      go (accepts e b) nz =
+      go (accepts b) nz =
           let s = tm.states-most in
-          rw (le-ltb 4096 (states t) (omega arith), e)
+          rw (le-ltb 4096 (states t) (omega arith), lookahead-added g f tm.next b .0)
 
   zero-ok : (x : ℕ) → terminalCellOk t x 0 ≡ true
   unfolding terminalCellOk
@@ -92,7 +77,7 @@ module _ (g : Grammar) (f : Formed g) (li : Limits g) (t : List ℕ) (tm : Table
       go (no b) _ =
           let e = tm.terminals-are in
           let e′ = width-means in
-          rw (le-ltb x (terminals t) (omega (arith, b)), tm.nonterminal-cell {q = q} {x = x} h (omega (arith, b)) (omega arith)) (lt-ltb (tm.next q x) (states t) (tm.automaton .next-below h))
+          rw (le-ltb x (terminals t) (omega (arith, b)), tm.nonterminal-cell {q = q} {x = x} h (omega (arith, b)) (omega arith)) (lt-ltb (tm.next q x) (states t) (automaton g f pr li t tm .next-below h))
 
   cells-ok : cellsOk t ≡ true
   unfolding cellsOk rowOk
