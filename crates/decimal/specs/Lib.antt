@@ -1,0 +1,4 @@
+pub mod Digits
+pub mod Form
+pub mod Page
+pub mod Scanning

@@ -1,0 +1,4 @@
+pub mod Example
+pub mod Lines
+pub mod ReadBack
+pub mod Room

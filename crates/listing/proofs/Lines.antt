@@ -1,0 +1,119 @@
+-- Lines are written part by part: each law goes from the parts' pages to the line's.
+use mathlib.Core.Path.{_≡_, refl, ap, _∙_}
+use mathlib.Core.List.{List, [], _∷_, _++_}
+use Prim.Native.Nat.{ℕ, zero, suc, _+_, _-_, _*_, _<_, _≤_}
+use native.Mathlib.Numerals.{add-one}
+use native.Mathlib.Nat.{zero-mul, suc-mul}
+use native.Mathlib.Omega.{arith}
+use lib.ListN.{length, getD, take, drop}
+use lib.Seq.{drop-cons, take-length}
+use Rattle.decimal.specs.Digits.{decimalOf}
+use Rattle.decimal.specs.Page.{Page, pageOf, page, wroteByte, wrote}
+use Rattle.decimal.proofs.Written.{wrote-append, wrote-joined, wrote-last, wrote-front}
+use Rattle.listing.specs.Listing.{spaced, lineOf, rowOf, rowWord, colonWord, part, states, columns, productions, rowAt, rowsOf, tableText, tableWord, leftWord, lengthWord, refusalText, refusedWord}
+
+-- one element more of a part, and none
+part-next : (t : List ℕ) (i end : ℕ) → i < end → part t i (end - i) ≡ getD t i 0 ∷ part t (i + 1) (end - (i + 1))
+unfolding part
+part-next t i end h = let e : end - i ≡ suc (end - (i + 1)) = omega arith in rw e refl
+
+part-none : (t : List ℕ) (i end : ℕ) → end ≤ i → part t i (end - i) ≡ []
+unfolding part
+part-none t i end h = let e : end - i ≡ 0 = omega arith in rw e refl
+
+pub numbers-next : (t : List ℕ) (i end x : ℕ) (p q r : Page) → i < end → x ≡ getD t i 0 → q ≡ wroteByte p 32 → r ≡ wrote q (decimalOf x)
+    → wrote r (spaced (part t (i + 1) (end - (i + 1)))) ≡ wrote p (spaced (part t i (end - i)))
+unfolding spaced wrote
+numbers-next t i end x p q r h e f g =
+    rw (g, f, part-next t i end h, e) (wrote-append (wroteByte p 32) (decimalOf (getD t i 0)) (spaced (part t (i + 1) (end - (i + 1)))))
+
+pub numbers-done : (t : List ℕ) (i end : ℕ) (p : Page) → end ≤ i → wrote p (spaced (part t i (end - i))) ≡ p
+unfolding spaced wrote
+numbers-done t i end p h = rw (part-none t i end h) refl
+
+-- numbers and a line feed
+ends : (ns : List ℕ) (p q r : Page) → q ≡ wrote p (spaced ns) → r ≡ wroteByte q 10 → r ≡ wrote p (spaced ns ++ 10 ∷ [])
+ends ns p q r e f = f ∙ rw e (wrote-last p (spaced ns) 10)
+
+pub line-done : (w ns : List ℕ) (p q r s : Page) → q ≡ wrote p w → r ≡ wrote q (spaced ns) → s ≡ wroteByte r 10 → s ≡ wrote p (lineOf w ns)
+unfolding lineOf
+line-done w ns p q r s e f g = wrote-joined p q s w (spaced ns ++ 10 ∷ []) e (ends ns q r s f g)
+
+pub row-done : (n : ℕ) (ns : List ℕ) (p a b c d e : Page) → a ≡ wrote p rowWord → b ≡ wrote a (decimalOf n) → c ≡ wrote b colonWord → d ≡ wrote c (spaced ns)
+    → e ≡ wroteByte d 10 → e ≡ wrote p (rowOf n ns)
+unfolding rowOf
+row-done n ns p a b c d e f g h i j =
+    wrote-joined p a e _ _ f (wrote-joined a b e _ _ g (wrote-joined b c e _ _ h (ends ns c d e i j)))
+
+-- what holds in the loop over the rows: what is left to write, the buffer's length, where the next row stands, and that no sum wraps
+pub record Going (t : List ℕ) (count width : ℕ) (start : Page) (out : List ℕ) (from n q size : ℕ) : Type 0 where
+  pub same : wrote (pageOf out n) (rowsOf t q (count - q)) ≡ wrote start (rowsOf t 0 (states t))
+  pub kept : length out ≡ size
+  pub place : from ≡ rowAt t q
+  pub wide : width ≡ columns t
+  pub few : count < 65536
+  pub narrow : width < 131072
+  pub room : from ≤ 131080 + q * 131072
+
+pub rows-start : (t : List ℕ) (count a b p : ℕ) (out : List ℕ) (n : ℕ) → (count ≡ states t) × (count < 65536) → (a ≡ getD t 1 0) × (a < 65536)
+    → (b ≡ getD t 2 0) × (b < 65536) → (p ≡ productions t) × (p < 65536) → Going t count (a + b) (pageOf out n) out (4 + 2 * p) n 0 (length out)
+rows-start t count a b p out n e f g h = record {
+  same = (let k : count - 0 ≡ states t = omega arith in rw k refl);
+  kept = refl;
+  place = rw (zero-mul) (omega arith);
+  wide = omega arith;
+  few = omega arith;
+  narrow = omega arith;
+  room = omega arith;
+}
+
+-- the next row begins where the row ends
+pub row-next : (t : List ℕ) (q from width : ℕ) → from ≡ rowAt t q → width ≡ columns t → from + width ≡ rowAt t (q + 1)
+row-next t q from width e f = rw (e, f, add-one, suc-mul q (columns t)) (omega arith)
+
+rows-more : (t : List ℕ) (q n from width : ℕ) (p r : Page) → q < n → from ≡ rowAt t q → width ≡ columns t
+    → r ≡ wrote p (rowOf q (part t from (from + width - from))) → wrote r (rowsOf t (q + 1) (n - (q + 1))) ≡ wrote p (rowsOf t q (n - q))
+unfolding rowsOf
+rows-more t q n from width p r h e f g =
+    let k : n - q ≡ suc (n - (q + 1)) = omega arith in
+    let l : from + width - from ≡ columns t = omega arith in
+    rw (k, g, l, e) (wrote-append p (rowOf q (part t (rowAt t q) (columns t))) (rowsOf t (q + 1) (n - (q + 1))))
+
+pub rows-next : (t : List ℕ) (count width : ℕ) (start : Page) (out : List ℕ) (from n q size : ℕ) (next : List ℕ) (m : ℕ)
+    → Going t count width start out from n q size → q < count → length next ≡ length out
+    → pageOf next m ≡ wrote (pageOf out n) (rowOf q (part t from (from + width - from))) → Going t count width start next (from + width) m (q + 1) size
+rows-next t count width start out from n q size next m g h l e = record {
+  same = rows-more t q count from width (pageOf out n) (pageOf next m) h (g .place) (g .wide) e ∙ g .same;
+  kept = l ∙ g .kept;
+  place = row-next t q from width (g .place) (g .wide);
+  wide = g .wide;
+  few = g .few;
+  narrow = g .narrow;
+  room = omega arith;
+}
+
+pub rows-done : (t : List ℕ) (q n : ℕ) (p : Page) → n ≤ q → wrote p (rowsOf t q (n - q)) ≡ p
+unfolding rowsOf wrote
+rows-done t q n p h = let k : n - q ≡ 0 = omega arith in rw k refl
+
+pub table-done : (t out : List ℕ) (n : ℕ) (a b c d : Page) → n ≡ productions t → a ≡ wrote (pageOf out 0) (lineOf tableWord (part t 0 (4 - 0)))
+    → b ≡ wrote a (lineOf leftWord (part t 4 (4 + n - 4))) → c ≡ wrote b (lineOf lengthWord (part t (4 + n) (4 + 2 * n - (4 + n))))
+    → d ≡ wrote c (rowsOf t 0 (states t)) → d ≡ page out (tableText t)
+unfolding tableText
+table-done t out n a b c d e f g h i =
+    let k : 4 + n - 4 ≡ n = omega arith in
+    let l : 4 + 2 * n - (4 + n) ≡ n = omega arith in
+    wrote-joined _ a d _ _ f (wrote-joined a b d _ _ (rw (k, e) at g) (wrote-joined b c d _ _ (rw (l, e) at h) i)) ∙ wrote-front out _
+
+-- a part within the list, and the whole of it
+pub part-slice : (t : List ℕ) (i n : ℕ) → i + n ≤ length t → part t i n ≡ take n (drop i t)
+unfolding part
+part-slice t i zero h = refl
+part-slice t i (suc n) h = rw (drop-cons t i 0 (omega arith), add-one) (ap (λ (l : List ℕ). getD t i 0 ∷ l) (part-slice t (suc i) n (omega arith)))
+
+pub part-whole : (t : List ℕ) → part t 0 (length t) ≡ t
+part-whole t = part-slice t 0 (length t) (omega arith) ∙ take-length t
+
+pub refusal-done : (ns out : List ℕ) (p : Page) → p ≡ wrote (pageOf out 0) (lineOf refusedWord (part ns 0 (length ns - 0))) → p ≡ page out (refusalText ns)
+unfolding refusalText
+refusal-done ns out p e = let k : length ns - 0 ≡ length ns = omega arith in (rw (k, part-whole ns) at e) ∙ wrote-front out (lineOf refusedWord ns)

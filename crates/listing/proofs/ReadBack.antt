@@ -1,0 +1,140 @@
+-- A printed text has the numbers that it was made of.
+use mathlib.Core.Path.{_≡_, refl, sym, ap, _∙_}
+use mathlib.Core.List.{List, [], _∷_, _++_, append-assoc, append-nil}
+use mathlib.Core.Bool.{true, false}
+use mathlib.Core.Option.{none, some}
+use Prim.Native.Nat.{ℕ, zero, suc, _+_, _-_, _*_, _<_, _≤_}
+use native.Mathlib.Nat.{zero-mul, suc-mul, add-zero, zero-add, suc-add}
+use native.Mathlib.Omega.{arith}
+use borrow.Author.Tests.{ne-eqb, le-leb}
+use lib.ListN.{length, getD}
+use lib.Dec.{eqb}
+use Rattle.decimal.specs.Digits.{decimalOf}
+use Rattle.decimal.specs.Form.{Separator, blank, line-feed, nil, Numeral, digit, longer, Text, empty, next}
+use Rattle.decimal.proofs.Decimal.{decimal-numeral}
+use Rattle.decimal.proofs.Parse.{led-text}
+use Rattle.listing.specs.Listing.{spaced, lineOf, rowOf, part, states, columns, productions, rowAt, rowsOf, tableText, tableWord, leftWord, lengthWord, colonWord, refusedWord, refusalText}
+use Rattle.listing.specs.Numbers.{isDigit, runs, numbersIn}
+use Rattle.listing.proofs.Lines.{part-whole, row-next}
+
+a-digit : (d : ℕ) → d < 10 → isDigit (48 + d) ≡ true
+unfolding isDigit
+a-digit d h = rw (le-leb 48 (48 + d) (omega arith), le-leb (48 + d) 57 (omega arith)) refl
+
+run-begins : (d : ℕ) (bs : List ℕ) → d < 10 → runs none ((48 + d) ∷ bs) ≡ runs (some d) bs
+unfolding runs
+run-begins d bs h = let e : 48 + d - 48 ≡ d = omega arith in rw (a-digit d h, runs, e) refl
+
+run-goes-on : (v d : ℕ) (bs : List ℕ) → d < 10 → runs (some v) ((48 + d) ∷ bs) ≡ runs (some (v * 10 + d)) bs
+unfolding runs
+run-goes-on v d bs h = let e : 48 + d - 48 ≡ d = omega arith in rw (a-digit d h, runs, e) refl
+
+reads : {ds : List ℕ} {n : ℕ} → Numeral ds n → (bs : List ℕ) → runs none (ds ++ bs) ≡ runs (some n) bs
+reads (digit {d} h) bs = run-begins d bs h
+reads (longer {ds} {n} {d} x h) bs = rw append-assoc (reads x ((48 + d) ∷ bs) ∙ run-goes-on n d bs h)
+
+-- no colon comes first
+abbrev Fresh : List ℕ → Type 0
+Fresh bs = eqb (getD bs 0 0) 58 ≡ false
+
+numeral-fresh : {ds : List ℕ} {n : ℕ} → Numeral ds n → (bs : List ℕ) → Fresh (ds ++ bs)
+numeral-fresh (digit {d} h) bs = ne-eqb (48 + d) 58 (λ e. omega arith)
+numeral-fresh (longer {ds} {n} {d} x h) bs = rw append-assoc (numeral-fresh x ((48 + d) ∷ bs))
+
+number-ends : (n : ℕ) (ns bs : List ℕ) → Fresh bs → runs (some n) (spaced ns ++ 10 ∷ bs) ≡ n ∷ runs none (spaced ns ++ 10 ∷ bs)
+unfolding spaced runs isDigit
+number-ends n [] bs f = rw f refl
+number-ends n (m ∷ ns) bs f = rw (append-assoc (decimalOf m) (spaced ns) (10 ∷ bs), numeral-fresh (decimal-numeral m) (spaced ns ++ 10 ∷ bs)) refl
+
+-- the numbers of a line
+spaced-back : (ns bs : List ℕ) → Fresh bs → runs none (spaced ns ++ 10 ∷ bs) ≡ ns ++ runs none bs
+unfolding spaced runs isDigit
+spaced-back [] bs f = refl
+spaced-back (n ∷ ns) bs f =
+    rw (append-assoc (decimalOf n) (spaced ns) (10 ∷ bs))
+    (reads (decimal-numeral n) (spaced ns ++ 10 ∷ bs) ∙ number-ends n ns bs f ∙ ap (λ (l : List ℕ). n ∷ l) (spaced-back ns bs f))
+
+-- a word has no number
+abbrev Plain : List ℕ → Type 0
+Plain w = (bs : List ℕ) → runs none (w ++ bs) ≡ runs none bs
+
+line-back : (w ns bs : List ℕ) → Plain w → Fresh bs → runs none (lineOf w ns ++ bs) ≡ ns ++ runs none bs
+unfolding lineOf
+line-back w ns bs p f =
+    rw (append-assoc w (spaced ns ++ 10 ∷ []) bs, append-assoc (spaced ns) (10 ∷ []) bs) (p (spaced ns ++ 10 ∷ bs) ∙ spaced-back ns bs f)
+
+-- a row without its state
+row-back : (q : ℕ) (ns bs : List ℕ) → Fresh bs → runs none (rowOf q ns ++ bs) ≡ ns ++ runs none bs
+unfolding rowOf runs isDigit
+row-back q ns bs f =
+    rw (append-assoc (decimalOf q) (colonWord ++ (spaced ns ++ 10 ∷ [])) bs, append-assoc (spaced ns) (10 ∷ []) bs)
+    (reads (decimal-numeral q) (colonWord ++ (spaced ns ++ 10 ∷ bs)) ∙ spaced-back ns bs f)
+
+part-append : (t : List ℕ) (i m n : ℕ) → part t i (m + n) ≡ part t i m ++ part t (i + m) n
+unfolding part
+part-append t i zero n = rw (zero-add, add-zero) refl
+part-append t i (suc m) n =
+    let e : i + suc m ≡ i + 1 + m = omega arith in
+    rw (suc-add, e) (ap (λ (l : List ℕ). getD t i 0 ∷ l) (part-append t (i + 1) m n))
+
+rows-fresh : (t : List ℕ) (q n : ℕ) → Fresh (rowsOf t q n)
+unfolding rowsOf rowOf
+rows-fresh t q zero = refl
+rows-fresh t q (suc n) = refl
+
+rows-back : (t : List ℕ) (q n : ℕ) → runs none (rowsOf t q n) ≡ part t (rowAt t q) (n * columns t)
+unfolding rowsOf runs part
+rows-back t q zero = rw zero-mul refl
+rows-back t q (suc n) =
+    let e : suc n * columns t ≡ columns t + n * columns t = rw suc-mul (omega arith) in
+    rw (row-back q (part t (rowAt t q) (columns t)) (rowsOf t (q + 1) n) (rows-fresh t (q + 1) n), rows-back t (q + 1) n, ← row-next t q (rowAt t q) (columns t) refl refl, e)
+    (sym (part-append t (rowAt t q) (columns t) (n * columns t)))
+
+parts-join : (t : List ℕ) (n m : ℕ) → part t 0 4 ++ (part t 4 n ++ (part t (4 + n) n ++ part t (4 + n + n) m)) ≡ part t 0 (4 + (n + (n + m)))
+parts-join t n m = rw (part-append t 0 4 (n + (n + m)), part-append t 4 n (n + m), part-append t (4 + n) n m) refl
+
+-- the text of a table has the table's numbers: as many as its sizes say
+pub table-back : (t : List ℕ) → numbersIn (tableText t) ≡ part t 0 (rowAt t (states t))
+unfolding tableText lineOf runs isDigit
+table-back t =
+    let n : ℕ = productions t in
+    let e : rowAt t 0 ≡ 4 + n + n = rw zero-mul (omega arith) in
+    let f : rowAt t (states t) ≡ 4 + (n + (n + states t * columns t)) = omega arith in
+    line-back tableWord (part t 0 4) _ (λ bs. refl) refl
+    ∙ ap (λ (l : List ℕ). part t 0 4 ++ l)
+    (line-back leftWord (part t 4 n) _ (λ bs. refl) refl
+    ∙ ap (λ (l : List ℕ). part t 4 n ++ l)
+    (line-back lengthWord (part t (4 + n) n) (rowsOf t 0 (states t)) (λ bs. refl) (rows-fresh t 0 (states t))
+    ∙ ap (λ (l : List ℕ). part t (4 + n) n ++ l) (rows-back t 0 (states t))))
+    ∙ rw (e, f) (parts-join t n (states t * columns t))
+
+-- and so the table itself, where it is all there
+pub table-back-whole : (t : List ℕ) → rowAt t (states t) ≡ length t → numbersIn (tableText t) ≡ t
+table-back-whole t e = table-back t ∙ rw (e, part-whole t) refl
+
+-- the text of a refusal has its number and its values
+pub refusal-back : (ns : List ℕ) → numbersIn (refusalText ns) ≡ ns
+unfolding refusalText runs isDigit
+refusal-back ns =
+    ap numbersIn (sym (append-nil (lineOf refusedWord ns))) ∙ line-back refusedWord ns [] (λ bs. refl) refl ∙ append-nil ns
+
+-- a separator, and a text behind it
+data Led : List ℕ → List ℕ → Type 0 where
+  led : {b : ℕ} {bs ns : List ℕ} → Separator b → Text bs ns → Led (b ∷ bs) ns
+
+before-led : (n : ℕ) {bs ns : List ℕ} → n ≤ 65535 → Led bs ns → Text (decimalOf n ++ bs) (n ∷ ns)
+before-led n h (led s t) = next nil (decimal-numeral n) h s t
+
+spaced-led : (ns : List ℕ) → ((i : ℕ) → getD ns i 0 ≤ 65535) → Led (spaced ns ++ 10 ∷ []) ns
+unfolding spaced
+spaced-led [] f = led line-feed (empty nil)
+spaced-led (n ∷ ns) f =
+    let t : Text ((decimalOf n ++ spaced ns) ++ 10 ∷ []) (n ∷ ns) = rw append-assoc (before-led n (f 0) (spaced-led ns (λ i. f (suc i)))) in
+    led blank t
+
+-- what is printed behind a word is a text with those numbers in the form of an input
+pub spaced-text : (ns : List ℕ) → ((i : ℕ) → getD ns i 0 ≤ 65535) → Text (spaced ns ++ 10 ∷ []) ns
+spaced-text ns f = of-led (spaced-led ns f)
+  where
+    of-led : {bs ms : List ℕ} → Led bs ms → Text bs ms
+    of-led (led s t) = led-text s t
