@@ -3,3 +3,4 @@ pub mod Areas
 pub mod Checked
 pub mod ReportLaws
 pub mod Spent
+pub mod Shifts

@@ -46,7 +46,7 @@ start-list st li = refl
 
 -- 27: some place is lent for the stack
 some-place : (t l : List ℕ) (n : ℕ) → refusalOf t l n ≡ 0 → 0 < n
-some-place t l n e = passed t l n e .place
+some-place t l n e = passed t l n e .places
 
 pub reads : (t l st li : List ℕ) (a : ℕ) → 0 < length st → refusalOf t l (length st) ≡ 0 → Read t l st li a (reading t l st li a)
 unfolding reading

@@ -1,9 +1,9 @@
 -- What the tests say, and one law for each way of a loop that tests every number below n.
-use mathlib.Core.Path.{_≡_, refl, sym, ap, _∙_}
+use mathlib.Core.Path.{_≡_, refl, sym, ap, ap₂, _∙_}
 use mathlib.Core.Bool.{Bool, true, false, _&&_}
 use mathlib.Core.Logic.{⊎-elim}
 use Prim.Native.Nat.{ℕ, zero, suc, _+_, _<_, _≤_}
-use native.Mathlib.Nat.{not-suc-le-zero, eq-or-lt-of-le, le-of-suc-le-suc, le-antisymm}
+use native.Mathlib.Nat.{add-zero, add-suc, not-suc-le-zero, eq-or-lt-of-le, le-of-suc-le-suc, le-antisymm}
 use native.Mathlib.Numerals.{add-one}
 use native.Mathlib.Omega.{arith}
 use lib.Dec.{leb}
@@ -29,6 +29,14 @@ pub and-false : (b : Bool) → (b && false) ≡ false
 and-false true = refl
 and-false false = refl
 
+and-one : (b : Bool) → (b && true) ≡ b
+and-one true = refl
+and-one false = refl
+
+and-assoc : (a b c : Bool) → ((a && b) && c) ≡ (a && (b && c))
+and-assoc true b c = refl
+and-assoc false b c = refl
+
 first-false : (a b : Bool) → false ≡ a → false ≡ (a && b)
 first-false true b e = cc
 first-false false b e = refl
@@ -52,6 +60,21 @@ module _ (p : ℕ → Bool) where
   pub all-end : (n i : ℕ) → allBelow i p ≡ true → i ≤ n → n ≤ i → true ≡ allBelow n p
   all-end n i a h g = rw (le-antisymm g h) (sym a)
 
+  -- one number more, in the values of a loop that joins its tests
+  pub all-step : (i : ℕ) {b c : Bool} → b ≡ allBelow i p → c ≡ p i → (b && c) ≡ allBelow (i + 1) p
+  unfolding allBelow
+  all-step i e k = rw (add-one, e, k)
+
+  pub all-last : (n i : ℕ) {b : Bool} → b ≡ allBelow i p → i ≤ n → n ≤ i → b ≡ allBelow n p
+  all-last n i e h g = rw (le-antisymm g h) e
+
+  -- the first a numbers, and the others
+  pub all-split : (a b : ℕ) → allBelow (a + b) p ≡ (allBelow a p && allBelow b (λ i. p (a + i)))
+  unfolding allBelow
+  all-split a zero = rw add-zero (sym (and-one (allBelow a p)))
+  all-split a (suc b) =
+      rw add-suc (ap (λ (x : Bool). x && p (a + b)) (all-split a b) ∙ and-assoc (allBelow a p) (allBelow b (λ i. p (a + i))) (p (a + b)))
+
   pub all-at : (n : ℕ) → allBelow n p ≡ true → (i : ℕ) → i < n → p i ≡ true
   unfolding allBelow
   all-at zero a i h = absurd (not-suc-le-zero h)
@@ -63,6 +86,11 @@ module _ (p : ℕ → Bool) where
   unfolding allBelow
   all-true zero h = refl
   all-true (suc n) h = and-true (all-true n (λ i k. h i (omega arith))) (h n (omega arith))
+
+pub all-ext : (p q : ℕ → Bool) (n : ℕ) → ((i : ℕ) → i < n → p i ≡ q i) → allBelow n p ≡ allBelow n q
+unfolding allBelow
+all-ext p q zero h = refl
+all-ext p q (suc n) h = ap₂ _&&_ (all-ext p q n (λ i k. h i (omega arith))) (h n (omega arith))
 
 -- ---- bounds
 

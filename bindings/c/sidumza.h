@@ -1,0 +1,87 @@
+/* The LR parser: runs a parse table over an input of terminals.
+ *
+ * Link with the archive libparser_c.a (x86-64 Linux; of the C library it needs at most memset, memcpy
+ * and memmove).
+ */
+#ifndef SIDUMZA_H
+#define SIDUMZA_H
+
+#include <stddef.h>
+#include <stdint.h>
+
+#ifdef __cplusplus
+extern "C" {
+#endif
+
+/* The places of `out`. */
+enum {
+    SIDUMZA_NUMBER,         /* the answer's number, below */
+    SIDUMZA_STEPS,          /* shifts, reductions and accepts made */
+    SIDUMZA_DEPTH,          /* stack places in use */
+    SIDUMZA_LISTED,         /* productions listed */
+    SIDUMZA_POSITION,       /* 31: the position, from 0; at the end it is the input's length */
+    SIDUMZA_EXPECTED,       /* 31: a word with bit m set for each expected terminal m */
+    SIDUMZA_EXPECTED_COUNT, /* 31: how many terminals are expected */
+    SIDUMZA_OUT             /* the number of places */
+};
+
+/* The answer's number. A place of `out` that an answer does not have is 0:
+ * a refusal has the number alone; an end has number, steps, depth and listed; 31 has all seven. */
+enum {
+    SIDUMZA_ACCEPTED = 0,
+
+    /* Refusals, tested in the order 21 (under 4 numbers), 22, 21, 23, 24, 25, 26, 27.
+     * They change neither area. */
+    SIDUMZA_TABLE_SHORT = 21,    /* the table has under 4 numbers, or fewer than its sizes say */
+    SIDUMZA_BAD_SIZES = 22,      /* a size of the table is 0 or above its limit */
+    SIDUMZA_BAD_PRODUCTION = 23, /* a left side that is no nonterminal, or a length above 512 */
+    SIDUMZA_BAD_CELL = 24,       /* a cell with a value that its column does not have */
+    SIDUMZA_INPUT_LONG = 25,     /* the input is longer than 65535 */
+    SIDUMZA_BAD_TERMINAL = 26,   /* an input byte that is 0 or no terminal of the table */
+    SIDUMZA_NO_STACK = 27,       /* the stack area is empty */
+
+    /* Ends, tested in the order 31, 32, 34, 35, 33 before each step. */
+    SIDUMZA_NO_ACTION = 31,  /* the input is no sentence: no action for the next terminal */
+    SIDUMZA_STEP_LIMIT = 32, /* as many steps made as allowed */
+    SIDUMZA_STACK_FULL = 33, /* a push with no place left */
+    SIDUMZA_LIST_FULL = 34,  /* a reduction with the list full */
+    SIDUMZA_BAD_GOTO = 35    /* a reduction that would pop state 0, or whose next state is 0 */
+};
+
+/* Parses `input` by `table` and writes the answer to `out`.
+ *
+ * table, table_len   the parse table in 16-bit numbers: the sizes Q (states, 1 to 256),
+ *                    T (terminals, 1 to 64), N (nonterminals, 1 to 60), P (productions, 1 to 128);
+ *                    P left sides; P lengths; Q rows of T + N cells. In a terminal's column 0 is
+ *                    no action, 1 to Q-1 shifts, 1024 + r reduces by production r, and 4096 accepts
+ *                    (terminal 0 only); in a nonterminal's column stands the next state, or 0.
+ *                    Numbers behind the last row are ignored.
+ * input, input_len   one byte for each terminal, 1 to T-1; the end marker 0 is not in it.
+ * stack, stack_len   the stack area. After an end the first `depth` places hold states, place 0 state 0;
+ *                    places used and popped are 0; places never used are unchanged.
+ * list, list_len     the list area. After an end the first `listed` places hold the productions
+ *                    in the order of the reductions (backwards they are a rightmost derivation);
+ *                    the others are unchanged.
+ * step_limit         how many steps may be made.
+ * out                the answer, seven numbers; all are written.
+ *
+ * Every content of the table and the input, and every length, is answered: nothing is asked of them.
+ * To the caller is left:
+ * - each pointer is aligned and valid for its length: table and input for reading, stack and list for
+ *   reading and writing, out for writing. A pointer whose length is 0 may be NULL.
+ * - none of stack, list and out overlaps another of the five; table and input may overlap each other.
+ * - nobody else writes any of the five during the call.
+ * The function keeps no pointer and has no state of its own: calls from several threads are independent.
+ */
+void sidumza_parse(const uint16_t *table, size_t table_len, const uint8_t *input, size_t input_len, uint16_t *stack,
+                   size_t stack_len, uint16_t *list, size_t list_len, uint32_t step_limit, uint64_t out[7]);
+
+/* The lowest terminal of an expected set, 64 where the set is empty. To list a set, take its lowest
+ * terminal and clear it (expected &= expected - 1) until nothing is left. */
+uint32_t sidumza_lowest(uint64_t expected);
+
+#ifdef __cplusplus
+}
+#endif
+
+#endif

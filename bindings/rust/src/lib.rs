@@ -1,0 +1,140 @@
+//! The LR parser: runs a parse table over an input of terminals.
+//!
+//! The parser is the archive `libparser_c.a`; its duties towards the caller (pointers valid for their
+//! lengths, areas that do not overlap) are met by the slices of [`parse`]. `bindings/c/sidumza.h`
+//! describes the table and the areas.
+
+/// Why a call is refused. A refusal changes neither area.
+#[derive(Clone, Copy, Debug, PartialEq, Eq)]
+pub enum Refusal {
+    /// 21: the table has under 4 numbers, or fewer than its sizes say.
+    TableShort,
+    /// 22: a size of the table is 0 or above its limit.
+    BadSizes,
+    /// 23: a left side that is no nonterminal, or a length above 512.
+    BadProduction,
+    /// 24: a cell with a value that its column does not have.
+    BadCell,
+    /// 25: the input is longer than 65,535.
+    InputLong,
+    /// 26: an input byte that is 0 or no terminal of the table.
+    BadTerminal,
+    /// 27: the stack area is empty.
+    NoStack,
+}
+
+/// What a parse did until its end.
+#[derive(Clone, Copy, Debug, PartialEq, Eq)]
+pub struct Counts {
+    /// The shifts, reductions and accepts made.
+    pub steps: u32,
+    /// The stack places in use: so many places of the stack area hold states.
+    pub depth: usize,
+    /// The productions listed: so many places of the list area hold productions.
+    pub listed: usize,
+}
+
+/// The answer to a call.
+#[derive(Clone, Copy, Debug, PartialEq, Eq)]
+pub enum Answer {
+    /// 0: the input is accepted.
+    Accepted { counts: Counts },
+    /// 21 to 27.
+    Refused { refusal: Refusal },
+    /// 31: no action for the terminal at `position`. Bit m of `expected` is set for each expected
+    /// terminal m (0: the end), `expected_count` of them.
+    NoAction { position: usize, expected: u64, expected_count: u32, counts: Counts },
+    /// 32: as many steps made as allowed.
+    StepLimit { counts: Counts },
+    /// 33: a push with no place left in the stack area.
+    StackFull { counts: Counts },
+    /// 34: a reduction with the list area full.
+    ListFull { counts: Counts },
+    /// 35: a reduction that would pop state 0, or whose next state is 0.
+    BadGoto { counts: Counts },
+}
+
+mod archive {
+    extern "C" {
+        pub fn sidumza_parse(
+            table: *const u16,
+            table_len: usize,
+            input: *const u8,
+            input_len: usize,
+            stack: *mut u16,
+            stack_len: usize,
+            list: *mut u16,
+            list_len: usize,
+            step_limit: u32,
+            out: *mut u64,
+        );
+        pub fn sidumza_lowest(expected: u64) -> u32;
+    }
+}
+
+/// Parses `input` (a byte for each terminal, without the end marker) by `table`.
+///
+/// After an end the used places of `stack` and `list` hold states and productions; popped places
+/// of `stack` are 0, and places never used are unchanged.
+pub fn parse(table: &[u16], input: &[u8], stack: &mut [u16], list: &mut [u16], step_limit: u32) -> Answer {
+    let mut out = [0u64; 7];
+    // SAFETY: each pointer comes with the length of its slice, `out` has the seven places that are
+    // written, and the borrows make the exclusive slices disjoint from all others.
+    unsafe {
+        archive::sidumza_parse(
+            table.as_ptr(),
+            table.len(),
+            input.as_ptr(),
+            input.len(),
+            stack.as_mut_ptr(),
+            stack.len(),
+            list.as_mut_ptr(),
+            list.len(),
+            step_limit,
+            out.as_mut_ptr(),
+        );
+    }
+    Answer::from(out)
+}
+
+/// The lowest terminal of an expected set, 64 where the set is empty.
+pub fn lowest(expected: u64) -> u32 {
+    // SAFETY: the function takes and gives a number, and asks nothing of it.
+    unsafe { archive::sidumza_lowest(expected) }
+}
+
+/// The terminals of an expected set, ascending.
+pub fn terminals(expected: u64) -> impl Iterator<Item = u32> {
+    let mut left = expected;
+    std::iter::from_fn(move || {
+        let m = lowest(left);
+        left &= left.wrapping_sub(1);
+        (m < 64).then_some(m)
+    })
+}
+
+impl From<[u64; 7]> for Answer {
+    /// Reads the seven numbers of the C call. Other numbers than its own are a fault, and panic.
+    fn from(out: [u64; 7]) -> Answer {
+        let counts = Counts { steps: out[1] as u32, depth: out[2] as usize, listed: out[3] as usize };
+        let refused = |refusal| Answer::Refused { refusal };
+        match out[0] {
+            0 => Answer::Accepted { counts },
+            21 => refused(Refusal::TableShort),
+            22 => refused(Refusal::BadSizes),
+            23 => refused(Refusal::BadProduction),
+            24 => refused(Refusal::BadCell),
+            25 => refused(Refusal::InputLong),
+            26 => refused(Refusal::BadTerminal),
+            27 => refused(Refusal::NoStack),
+            31 => {
+                Answer::NoAction { position: out[4] as usize, expected: out[5], expected_count: out[6] as u32, counts }
+            }
+            32 => Answer::StepLimit { counts },
+            33 => Answer::StackFull { counts },
+            34 => Answer::ListFull { counts },
+            35 => Answer::BadGoto { counts },
+            n => unreachable!("the parser answers no {n}"),
+        }
+    }
+}

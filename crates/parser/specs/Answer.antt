@@ -1,0 +1,36 @@
+-- The number and the values that the paper gives each answer.
+use Prim.Native.Nat.{ℕ}
+use mathlib.Core.Path.{_≡_}
+use mathlib.Core.List.{List, [], _∷_, _++_}
+use Rattle.machine.specs.Machine.{Outcome, reportOf}
+use Rattle.machine.specs.Checks.{Reading}
+use Rattle.table_checks.specs.Verdict.{refusalNumber}
+use Rattle.parser.specs.declared.Counts.{Counts}
+use Rattle.parser.specs.declared.Answer.{Answer}
+use Rattle.parser.specs.declared.Answer.the-variants.{Refused, Accepted, NoAction, StepLimit, StackFull, ListFull, Broken}
+
+-- what each end carries: the steps made, the stack places in use, the productions listed
+abbrev pub countsOf : Counts → List ℕ
+countsOf c = c .steps ∷ c .depth ∷ c .listed ∷ []
+
+-- 31 carries also the position, and the expected set with its size
+abbrev pub numbers : Answer → List ℕ
+numbers (Refused e) = refusalNumber e ∷ []
+numbers (Accepted c) = 0 ∷ countsOf c
+numbers (NoAction position set size c) = 31 ∷ countsOf c ++ position ∷ set ∷ size ∷ []
+numbers (StepLimit c) = 32 ∷ countsOf c
+numbers (StackFull c) = 33 ∷ countsOf c
+numbers (ListFull c) = 34 ∷ countsOf c
+numbers (Broken c) = 35 ∷ countsOf c
+
+-- the answer and both areas at exit are those of a reading
+pub record ReadsAs (g : Reading) (r : Answer) (st li : List ℕ) : Type 0 where
+  pub answer : numbers r ≡ g .report
+  pub stack : st ≡ g .stack
+  pub list : li ≡ g .list
+
+-- the answer and both areas at exit are those of an outcome of the machine
+pub record Ends (t : List ℕ) (o : Outcome) (r : Answer) (st li : List ℕ) : Type 0 where
+  pub answer : numbers r ≡ reportOf t o
+  pub stack : st ≡ o .final .stack
+  pub list : li ≡ o .final .list

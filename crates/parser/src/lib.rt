@@ -1,0 +1,131 @@
+// Runs a parse table over an input.
+use steps::Next;
+use steps::State;
+use steps::Stop;
+use table_checks::Refusal;
+use table_checks::Verdict;
+use tables::Shape;
+ghost use mathlib.Core.Path.{_≡_};
+ghost use mathlib.Core.List.{List, _∷_, _++_};
+ghost use Prim.Native.Nat.{ℕ, _+_, _*_, _≤_};
+ghost use lib.ListN.{length};
+ghost use Rattle.machine.specs.Machine.{run as runs, start, counts, expected};
+ghost use Rattle.machine.specs.Checks.{refusalOf, reading};
+ghost use Rattle.steps.specs.State.{machineOf, stopNumber, Held};
+ghost use Rattle.parser.specs.Answer.{countsOf, numbers, ReadsAs, Ends};
+
+// The steps made, the stack places in use and the productions listed.
+pub struct Counts {
+    pub steps: u32,
+    pub depth: usize,
+    pub listed: usize,
+}
+
+// A refusal, or how a reading ended; `numbers` gives the paper's number and values of each.
+pub enum Answer {
+    Refused(Refusal),
+    Accepted(Counts),
+    // No action for the terminal at a position, with the expected set and its size.
+    NoAction {
+        position: usize,
+        expected: u64,
+        size: u32,
+        counts: Counts,
+    },
+    StepLimit(Counts),
+    StackFull(Counts),
+    ListFull(Counts),
+    // A reduction that no table of the maker asks for.
+    Broken(Counts),
+}
+
+fn count(s: State) -> Counts
+    ensures { λ r. ⌜ ((st li : List ℕ) → countsOf r ≡ counts (machineOf st li s)) ⌝ }
+{
+    Counts {
+        steps: s.steps,
+        depth: s.depth,
+        listed: s.listed,
+    }
+}
+
+fn no_action(cells: &[u16], z: Shape, s: State) -> Answer
+    requires { ⌜ (z .terminals ≤ 64) × (s .top * z .width + z .terminals ≤ length (now cells)) ⌝ }
+    ensures { λ r. ⌜ ((t st li : List ℕ) → Held t (now (cells .entry)) st li z s → numbers r ≡ 31 ∷ counts (machineOf st li s) ++ expected t (machineOf st li s)) ⌝ }
+{
+    let word = steps::expected(cells, z, s.top);
+    let n = sets::size(word);
+    let c = count(s);
+    Answer::NoAction {
+        position: s.position,
+        expected: word,
+        size: n,
+        counts: c,
+    }
+}
+
+fn stopped(e: Stop, s: State) -> Answer
+    ensures { λ r. ⌜ ((st li : List ℕ) → numbers r ≡ stopNumber e ∷ counts (machineOf st li s)) ⌝ }
+{
+    let c = count(s);
+    match e {
+        Stop::StackFull => Answer::StackFull(c),
+        Stop::ListFull => Answer::ListFull(c),
+        Stop::Broken => Answer::Broken(c),
+    }
+}
+
+// The reading of an input by a table, both checked.
+fn run(table: &[u16], input: &[u8], stack: &mut [u16], list: &mut [u16], step_limit: u32) -> Answer
+    requires { ⌜ refusalOf (now table) (now input) (length (now stack)) ≡ 0 ⌝ }
+    ensures { λ r. ⌜ Ends (now (table .entry)) (runs (now (table .entry)) (now (input .entry)) «step_limit» (start (now (stack .entry)) (now (list .entry)))) r (now (stack .exit)) (now (list .exit)) ⌝ }
+{
+    let z = tables::shape_of(table);
+    let cells = tables::cells_of(table, z);
+    stack[0] = 0;
+    let mut s = State {
+        depth: 1,
+        listed: 0,
+        position: 0,
+        steps: 0,
+        top: 0,
+    };
+    loop {
+        let a = steps::action(cells, input, z, s);
+        if a == 0 {
+            return no_action(cells, z, s);
+        }
+        if s.steps == step_limit {
+            return Answer::StepLimit(count(s));
+        }
+        let n = steps::step(table, cells, stack, list, z, s, a);
+        match n {
+            Next::Ended(e) => {
+                return stopped(e, s);
+            }
+            Next::Moved(t) => {
+                s = t;
+            }
+            Next::Accepted(t) => {
+                return Answer::Accepted(count(t));
+            }
+        }
+    }
+}
+
+// Reads an input by a table: every input is answered, and a refusal changes nothing.
+pub fn parse(
+    table: &[u16],
+    input: &[u8],
+    stack: &mut [u16],
+    list: &mut [u16],
+    step_limit: u32,
+) -> Answer
+    ensures { λ r. ⌜ ReadsAs (reading (now (table .entry)) (now (input .entry)) (now (stack .entry)) (now (list .entry)) «step_limit») r (now (stack .exit)) (now (list .exit)) ⌝ }
+{
+    let v = table_checks::check(table, input, stack.len());
+    match v {
+        Verdict::Refused(e) => Answer::Refused(e),
+        Verdict::Passed => run(table, input, stack, list, step_limit),
+    }
+}

@@ -1,0 +1,82 @@
+// The reader for C and Rust: slices as a pointer and a length, and the answer as seven numbers.
+use parser::Answer;
+use parser::Counts;
+use table_checks::Refusal;
+ghost use mathlib.Core.Path.{_≡_};
+ghost use mathlib.Core.List.{_∷_, []};
+ghost use Rattle.sets.specs.Bit.{Lowest};
+ghost use Rattle.machine.specs.Checks.{reading};
+ghost use Rattle.table_checks.specs.Verdict.{refusalNumber};
+ghost use Rattle.parser.specs.Answer.{countsOf, numbers};
+ghost use Rattle.parser_c.specs.Out.{padded, WritesOut};
+
+fn end(n: u64, c: Counts) -> [u64; 7]
+    ensures { λ r. ⌜ r ≡ padded (n ∷ countsOf c) ⌝ }
+{
+    [n, c.steps as u64, c.depth as u64, c.listed as u64, 0, 0, 0]
+}
+
+fn refused(e: Refusal) -> [u64; 7]
+    ensures { λ r. ⌜ r ≡ padded (refusalNumber e ∷ []) ⌝ }
+{
+    let n = match e {
+        Refusal::TableShort => 21,
+        Refusal::SizesWrong => 22,
+        Refusal::ProductionWrong => 23,
+        Refusal::CellWrong => 24,
+        Refusal::InputLong => 25,
+        Refusal::TerminalWrong => 26,
+        Refusal::NoStack => 27,
+    };
+    [n, 0, 0, 0, 0, 0, 0]
+}
+
+fn seven(a: Answer) -> [u64; 7]
+    ensures { λ r. ⌜ r ≡ padded (numbers a) ⌝ }
+{
+    match a {
+        Answer::Refused(e) => refused(e),
+        Answer::Accepted(c) => end(0, c),
+        Answer::NoAction {
+            position,
+            expected,
+            size,
+            counts,
+        } => [
+            31,
+            counts.steps as u64,
+            counts.depth as u64,
+            counts.listed as u64,
+            position as u64,
+            expected,
+            size as u64,
+        ],
+        Answer::StepLimit(c) => end(32, c),
+        Answer::StackFull(c) => end(33, c),
+        Answer::ListFull(c) => end(34, c),
+        Answer::Broken(c) => end(35, c),
+    }
+}
+
+#[no_mangle]
+pub extern "C" fn sidumza_parse(
+    table: &[u16],
+    input: &[u8],
+    stack: &mut [u16],
+    list: &mut [u16],
+    step_limit: u32,
+    out: &mut [u64; 7],
+)
+    ensures { λ _. ⌜ WritesOut (reading (now (table .entry)) (now (input .entry)) (now (stack .entry)) (now (list .entry)) «step_limit») (now (out .exit)) (now (stack .exit)) (now (list .exit)) ⌝ }
+{
+    let a = parser::parse(table, input, stack, list, step_limit);
+    *out = seven(a);
+}
+
+// The lowest terminal of an expected set; 64 where it is empty.
+#[no_mangle]
+pub extern "C" fn sidumza_lowest(expected: u64) -> u32
+    ensures { λ r. ⌜ Lowest 64 expected r ⌝ }
+{
+    sets::lowest(expected)
+}

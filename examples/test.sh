@@ -1,0 +1,74 @@
+#!/bin/sh
+# Runs a page program over the examples and over bad files: test.sh PROGRAM
+# Each answer must be the expected one; each bad file must get a message and exit status 2.
+here=$(dirname "$0")
+page=$1
+tmp=$(mktemp -d) || exit 1
+trap 'rm -rf "$tmp"' EXIT
+failed=0
+
+# same NAME EXPECTED: compares $tmp/out with a file
+same() {
+    if ! diff "$2" "$tmp/out" >"$tmp/diff"; then
+        echo "examples: $page: $1 differs"
+        cat "$tmp/diff"
+        failed=1
+    fi
+}
+
+# says INPUT EXPECTED ARGUMENTS: one line in, one line out
+says() {
+    input=$1
+    printf '%s\n' "$2" >"$tmp/expected"
+    shift 2
+    printf '%s\n' "$input" | "$page" "$@" >"$tmp/out" 2>"$tmp/err" || echo "exit $?" >>"$tmp/out"
+    same "'$input' by $*" "$tmp/expected"
+}
+
+# bad INPUT ARGUMENTS: exit status 2 and a message
+bad() {
+    input=$1
+    shift
+    printf "$input" | "$page" "$@" >"$tmp/out" 2>"$tmp/err"
+    status=$?
+    if [ $status -ne 2 ] || ! grep -q '^page: ' "$tmp/err"; then
+        echo "examples: $page: bad case $*: exit $status, message '$(cat "$tmp/err")'"
+        failed=1
+    fi
+}
+
+"$page" "$here/a.table" <"$here/a.lines" >"$tmp/out" || failed=1
+same a.lines "$here/a.expected"
+
+says "2 1" "stopped 32: steps 4, stack 2, listed 2" "$here/a.table" 4
+says "2 1" "stopped 33: steps 2, stack 2, listed 1" "$here/a.table" 100 2
+says "2 1" "stopped 34: steps 3, stack 3, listed 1" "$here/a.table" 100 10 1
+says "2 1" "refused 27: no stack area" "$here/a.table" 100 0
+says "" "accepted: steps 2, productions 0" "$here/empty.table"
+says "" "wrong at 0: steps 0, expected 2" "$here/a.table" 0 1 0
+echo "1 1 1 1 1 1 1024 0" >"$tmp/foreign"
+says "" "stopped 35: steps 0, stack 1, listed 0" "$tmp/foreign"
+awk 'BEGIN { printf "2"; for (i = 0; i < 65535; i++) printf " 1"; print "" }' >"$tmp/long"
+says "$(cat "$tmp/long")" "refused 25: input too long" "$here/a.table"
+
+bad "" # no table named
+bad "" "$tmp/missing"
+bad "" "$here"
+bad "" /dev/null
+bad "" "$here/a.lines"
+bad "" "$here/a.table" many
+bad "" "$here/a.table" 4294967296
+bad "2 x\n" "$here/a.table"
+bad "2 256\n" "$here/a.table"
+bad "2 -1\n" "$here/a.table"
+bad "2\0001\n" "$here/a.table"
+bad "99999999999999999999999\n" "$here/a.table"
+for edit in '$d' 's/row 2/row 3/' 's/4096/65536/' 's/4096/4095/' 's/table 4/table 5/' 's/table 4/table 65535/' \
+    's/table 4/table 0/' 's/left 3/left 2/' 's/length 2/length 513/' 's/ 3 0 0/ 4 0 0/' 's/:/;/' '$s/$/ 7/' 's/left/lift/' \
+    '1s/.*/refused 4/' '1s/.*/not a card/'; do
+    sed "$edit" "$here/a.table" >"$tmp/bad"
+    bad "2 1\n" "$tmp/bad"
+done
+head -c 1000 /dev/urandom >"$tmp/bad"
+bad "" "$tmp/bad"
+exit $failed

@@ -1,0 +1,63 @@
+#!/bin/sh
+# Builds and runs the tests and examples of the parser: run.sh [ARCHIVE]
+# ARCHIVE is libparser_c.a, by default target/staticlib/libparser_c.a of the repository (rt staticlib parser_c).
+# SEED and CASES set the differential test's seed and number of cases. Exit status 0: all passed.
+cd "$(dirname "$0")/../.." || exit 1
+archive=$(readlink -f "${1:-target/staticlib/libparser_c.a}")
+[ -f "$archive" ] || { echo "reader: no archive '$1': run rt staticlib parser_c first"; exit 1; }
+export SIDUMZA_LIB="${archive%/*}" CARGO_TARGET_DIR="$PWD/target/cargo"
+out=target/reader
+mkdir -p "$out"
+failed=
+
+# part NAME COMMAND...: runs a part and says what came of it
+part() {
+    name=$1
+    shift
+    start=$(date +%s)
+    if "$@" >"$out/log" 2>&1; then
+        echo "reader: $name: ok ($(($(date +%s) - start)) s)"
+    else
+        echo "reader: $name: FAILED (exit status $?)"
+        failed="$failed, $name"
+    fi
+    sed 's/^/    /' "$out/log"
+}
+
+# The archive exports both functions and leans on nothing but the memory functions.
+symbols() {
+    nm -g --defined-only "$archive" | awk 'NF == 3 { print $3 }' | sort -u >"$out/defined"
+    for f in sidumza_parse sidumza_lowest; do
+        grep -qx $f "$out/defined" || { echo "no $f"; return 1; }
+    done
+    nm -u "$archive" | awk 'NF == 2 { print $2 }' | sort -u | comm -23 - "$out/defined" >"$out/needed"
+    ! grep -vxE 'memset|memcpy|memmove' "$out/needed"
+}
+
+# The header by itself, as C and, where there is a compiler for it, as C++.
+header() {
+    gcc -std=c99 -Wall -Wextra -Wpedantic -Werror -fsyntax-only -x c bindings/c/sidumza.h || return 1
+    ! command -v g++ >/dev/null || g++ -Wall -Wextra -Wpedantic -Werror -fsyntax-only -x c++ bindings/c/sidumza.h
+}
+
+build_c() {
+    gcc -std=c11 -D_POSIX_C_SOURCE=200809L -O2 -Wall -Wextra -Wpedantic -Werror -Ibindings/c examples/page.c "$archive" -o "$out/page"
+}
+
+build_rust() {
+    cargo build --quiet --offline --release --manifest-path bindings/rust/Cargo.toml --lib --example page &&
+        cargo build --quiet --offline --release --manifest-path tests/reader/Cargo.toml
+}
+
+part "symbols of the archive" symbols
+part "header" header
+part "build in C" build_c
+part "build in Rust" build_rust
+if [ -z "$failed" ]; then
+    part "page program in C" sh examples/test.sh "$out/page"
+    part "page program in Rust" sh examples/test.sh target/cargo/release/examples/page
+    part "self-check of the differential test" target/cargo/release/reader_test self-check
+    part "differential test" target/cargo/release/reader_test
+fi
+[ -z "$failed" ] || { echo "reader: FAILED: ${failed#, }"; exit 1; }
+echo "reader: all passed"

@@ -1,0 +1,369 @@
+// Random cases: tables of random grammars, random tables that pass the check, damaged ones; inputs,
+// areas with old contents, and step limits.
+use crate::lalr::{self, Grammar};
+use crate::reference;
+
+pub struct Random(u64);
+
+impl Random {
+    pub fn new(seed: u64) -> Random {
+        Random(seed)
+    }
+
+    // SplitMix64
+    pub fn next(&mut self) -> u64 {
+        self.0 = self.0.wrapping_add(0x9e3779b97f4a7c15);
+        let z = (self.0 ^ self.0 >> 30).wrapping_mul(0xbf58476d1ce4e5b9);
+        let z = (z ^ z >> 27).wrapping_mul(0x94d049bb133111eb);
+        z ^ z >> 31
+    }
+
+    // 0 to n-1
+    pub fn below(&mut self, n: usize) -> usize {
+        ((self.next() as u32 as u64 * n as u64) >> 32) as usize
+    }
+
+    pub fn between(&mut self, low: usize, high: usize) -> usize {
+        low + self.below(high - low + 1)
+    }
+
+    // True once in n times.
+    pub fn one_in(&mut self, n: usize) -> bool {
+        self.below(n) == 0
+    }
+
+    fn of<T: Copy>(&mut self, from: &[T]) -> T {
+        from[self.below(from.len())]
+    }
+}
+
+#[derive(Default)]
+pub struct Case {
+    pub table: Vec<u16>,
+    pub input: Vec<u8>,
+    pub stack: Vec<u16>,
+    pub list: Vec<u16>,
+    pub limit: u32,
+}
+
+// A grammar with its table, and the production of least height for each nonterminal.
+struct Language {
+    grammar: Grammar,
+    table: Vec<u16>,
+    least: Vec<usize>,
+}
+
+impl Language {
+    fn new(grammar: Grammar) -> Option<Language> {
+        let all = grammar.terminals + grammar.nonterminals;
+        let mut least = vec![usize::MAX; all];
+        let mut done: Vec<bool> = (0..all).map(|x| x < grammar.terminals).collect();
+        for _ in 0..grammar.nonterminals {
+            let before = done.clone();
+            for (p, (&a, right)) in grammar.left.iter().zip(&grammar.right).enumerate() {
+                if !done[a] && right.iter().all(|&x| before[x]) {
+                    done[a] = true;
+                    least[a] = p;
+                }
+            }
+        }
+        if done.contains(&false) {
+            return None;
+        }
+        let table = lalr::table(&grammar)?;
+        Some(Language { grammar, table, least })
+    }
+
+    fn sentence(&self, long: usize, r: &mut Random) -> Vec<u8> {
+        let mut out = Vec::new();
+        self.derive(self.grammar.terminals, long, 0, r, &mut out);
+        out
+    }
+
+    // Appends a random string derived from symbol x; least trees once it is long enough.
+    fn derive(&self, x: usize, long: usize, depth: usize, r: &mut Random, out: &mut Vec<u8>) {
+        let g = &self.grammar;
+        if x < g.terminals {
+            out.push(x as u8);
+            return;
+        }
+        let mut p = self.least[x];
+        if out.len() < long && depth < 100 {
+            // Three tries for another production than the least.
+            for _ in 0..3 {
+                let from = r.below(g.left.len());
+                p = (from..g.left.len()).chain(0..from).find(|&p| g.left[p] == x).unwrap();
+                if p != self.least[x] || r.one_in(4) {
+                    break;
+                }
+            }
+        }
+        for &y in &g.right[p] {
+            self.derive(y, long, depth + 1, r, out);
+        }
+    }
+}
+
+fn random_grammar(r: &mut Random) -> Grammar {
+    let (t, n) = (r.between(1, 6), r.between(1, 4));
+    let p = r.between(n, 9);
+    let lengths = r.of(&[2, 3, 4, 6]);
+    let symbol = |r: &mut Random| {
+        if t == 1 || r.one_in(2) {
+            r.between(t, t + n - 1)
+        } else {
+            r.between(1, t - 1)
+        }
+    };
+    let left = (0..p).map(|i| if i < n { t + i } else { r.between(t, t + n - 1) }).collect();
+    let right = (0..p).map(|_| (0..r.below(lengths)).map(|_| symbol(r)).collect()).collect();
+    Grammar { terminals: t, nonterminals: n, left, right }
+}
+
+// Each nonterminal's right sides begin with terminals of their own: no conflict, many symbols.
+fn wide_grammar(r: &mut Random) -> Grammar {
+    let (t, n) = (r.between(40, 64), r.between(20, 60));
+    let p = r.between(n, 128);
+    let left: Vec<usize> = (0..p).map(|i| if i < n { t + i } else { r.between(t, t + n - 1) }).collect();
+    let mut next = vec![1; t + n];
+    let mut right = Vec::new();
+    for (i, &a) in left.iter().enumerate() {
+        let mut symbols = vec![next[a]];
+        next[a] = (next[a] + 1).min(t - 1);
+        if i < n - 1 {
+            symbols.push(t + i + 1);
+        }
+        right.push(symbols);
+    }
+    Grammar { terminals: t, nonterminals: n, left, right }
+}
+
+fn card_a() -> Grammar {
+    Grammar { terminals: 3, nonterminals: 1, left: vec![3, 3], right: vec![vec![3, 1], vec![2]] }
+}
+
+// Expressions: + 1, * 2, ( 3, ) 4, number 5; E 6, T 7, F 8.
+fn expressions() -> Grammar {
+    let right = [vec![6, 1, 7], vec![7], vec![7, 2, 8], vec![8], vec![3, 6, 4], vec![5]];
+    Grammar { terminals: 6, nonterminals: 3, left: vec![6, 6, 7, 7, 8, 8], right: right.to_vec() }
+}
+
+// A random table that passes the check.
+fn foreign(r: &mut Random, table: &mut Vec<u16>) {
+    let (q, t, n, p);
+    if r.one_in(100) {
+        (q, t, n, p) = (r.between(200, 256), r.between(50, 64), r.between(40, 60), r.between(100, 128));
+    } else if r.one_in(100) {
+        (q, t, n, p) = (r.of(&[1, 256]), r.of(&[1, 64]), r.of(&[1, 60]), r.of(&[1, 128]));
+    } else {
+        (q, t, n, p) = (r.between(1, 12), r.between(1, 8), r.between(1, 6), r.between(1, 10));
+    }
+    table.clear();
+    table.extend([q, t, n, p].map(|x| x as u16));
+    table.extend((0..p).map(|_| r.between(t, t + n - 1) as u16));
+    let longest = r.of(&[0, 1, 2, 3, 5, 9, 512]);
+    table.extend((0..p).map(|_| r.between(0, longest) as u16));
+    let (holes, reductions) = (r.of(&[0, 0, 1, 5, 20]), r.of(&[5, 20, 40, 60, 100]));
+    for i in 0..q {
+        // A reduction in state 0 mostly ends with 35.
+        let reductions = if i == 0 && !r.one_in(5) { 0 } else { reductions };
+        for x in 0..t + n {
+            let state = if q > 1 { r.between(1, q - 1) } else { 0 };
+            let v = if r.below(100) < holes {
+                0
+            } else if x >= t {
+                state
+            } else if x == 0 && r.one_in(3) {
+                4096
+            } else if x == 0 || r.below(100) < reductions {
+                1024 + r.below(p)
+            } else {
+                state
+            };
+            table.push(v as u16);
+        }
+    }
+}
+
+// Damages some numbers of a table, or cuts it.
+fn damage(r: &mut Random, table: &mut Vec<u16>) {
+    let [q, t, n, p] = [0, 1, 2, 3].map(|i| table[i]);
+    if r.one_in(8) {
+        let keep = if r.one_in(2) { r.below(6) } else { table.len() - r.between(1, 3) };
+        table.truncate(keep.min(table.len()));
+        if r.one_in(2) {
+            return;
+        }
+    }
+    let own = [q - 1, q, q + 1, t - 1, t, t + n - 1, t + n, 1023 + p, 1024 + p];
+    let fixed = [0, 1, 60, 61, 64, 65, 128, 129, 256, 257, 511, 512, 513, 1023, 1024, 4095, 4096, 4097, 65535];
+    for _ in 0..r.between(1, 2) {
+        if table.is_empty() {
+            return;
+        }
+        let at = match r.below(8) {
+            0 => r.below(4),
+            1 | 2 => 4 + r.below(2 * p as usize),
+            _ => r.below(table.len()),
+        };
+        if at < table.len() {
+            table[at] = match r.below(5) {
+                0 => r.next() as u16,
+                1 | 2 => r.of(&own),
+                _ => r.of(&fixed),
+            };
+        }
+    }
+}
+
+fn fill(r: &mut Random, area: &mut Vec<u16>, n: usize) {
+    area.clear();
+    while area.len() < n {
+        let x = r.next();
+        area.extend([0, 16, 32, 48].map(|s| (x >> s) as u16));
+    }
+    area.truncate(n);
+}
+
+pub struct Cases {
+    random: Random,
+    pub case: Case,
+    languages: Vec<Language>,
+    foreign: Vec<u16>,
+    count: u64,
+    scratch: (Vec<u16>, Vec<u16>),
+}
+
+impl Cases {
+    pub fn new(seed: u64) -> Cases {
+        let mut random = Random::new(seed);
+        let mut languages: Vec<Language> = [card_a(), expressions()].into_iter().filter_map(Language::new).collect();
+        while languages.len() < 200 {
+            let rich = |l: &Language, r: &mut Random| (0..20).any(|_| l.sentence(10, r).len() >= 10);
+            languages.extend(
+                Language::new(random_grammar(&mut random)).filter(|l| random.one_in(50) || rich(l, &mut random)),
+            );
+        }
+        while languages.len() < 206 {
+            languages.extend(Language::new(wide_grammar(&mut random)));
+        }
+        let case = Case::default();
+        Cases { random, case, languages, foreign: Vec::new(), count: 0, scratch: (vec![0; 4000], vec![0; 4000]) }
+    }
+
+    // Makes the next case.
+    pub fn step(&mut self) {
+        let r = &mut self.random;
+        let c = &mut self.case;
+        self.count += 1;
+        if self.count % 2500 == 1 {
+            huge(r, c, &self.languages, &mut self.foreign);
+            return;
+        }
+        c.input.clear();
+        c.table.clear();
+        if r.one_in(2) {
+            let most = if r.one_in(100) { self.languages.len() } else { 200 };
+            let l = &self.languages[r.below(most)];
+            c.table.extend(&l.table);
+            let t = l.grammar.terminals;
+            if t > 1 && r.one_in(5) {
+                let n = r.below(20);
+                c.input.extend((0..n).map(|_| r.between(1, t - 1) as u8));
+            } else {
+                let long = r.of(&[5, 20, 100]);
+                c.input = l.sentence(long, r);
+                let n = c.input.len();
+                match r.below(4) {
+                    0 => c.input.truncate(r.below(n + 1)),
+                    1 if n > 0 && t > 1 => c.input[r.below(n)] = r.between(1, t - 1) as u8,
+                    _ => {}
+                }
+            }
+        } else {
+            if self.count % 8 == 2 || self.foreign.is_empty() {
+                foreign(r, &mut self.foreign);
+            }
+            c.table.extend(&self.foreign);
+            let t = c.table[1] as usize;
+            if t > 1 {
+                let most = if r.one_in(50) { 2000 } else { 30 };
+                let n = r.below(most);
+                c.input.extend((0..n).map(|_| r.between(1, t - 1) as u8));
+            }
+        }
+        if r.one_in(40) {
+            let bad = [0, c.table[1] as u8, c.table[1] as u8 + 1, 255];
+            let (at, b) = (r.below(c.input.len() + 1), r.of(&bad));
+            c.input.insert(at, b);
+        }
+        if r.one_in(6) {
+            damage(r, &mut c.table);
+        }
+        if r.one_in(6) {
+            let n = r.of(&[1, 2, 30]);
+            c.table.extend((0..n).map(|_| r.next() as u16));
+        }
+        let lengths = [0, 1, 1, 2, 3, 4, 6, 10, 30, 100];
+        let mut stack = if r.one_in(3) { r.of(&lengths) } else { 300 };
+        let mut list = if r.one_in(3) { r.of(&lengths) } else { 300 };
+        c.limit = if r.one_in(3) { r.of(&[0, 1, 2, 3, 5, 9, 20, 50, 100]) } else { r.of(&[3000, 1000000, u32::MAX]) };
+        if r.one_in(8) {
+            // Limits that are just reached, or just missed.
+            let o = reference::parse(&c.table, &c.input, &mut self.scratch.0, &mut self.scratch.1, 3000);
+            (stack, list, c.limit) = (1000, 1000, u32::MAX);
+            let off = r.below(3);
+            match r.below(3) {
+                0 => c.limit = (o.out[1] as u32 + off as u32).saturating_sub(1),
+                1 => stack = (o.high + off).saturating_sub(1),
+                _ => list = (o.out[3] as usize + off).saturating_sub(1),
+            }
+        }
+        fill(r, &mut c.stack, stack);
+        fill(r, &mut c.list, list);
+    }
+}
+
+// An input of 65,535 or 65,536 terminals, or a run that pushes more than 65,535 states, with large areas.
+fn huge(r: &mut Random, c: &mut Case, languages: &[Language], spare: &mut Vec<u16>) {
+    let n = r.between(65535, 65536);
+    c.table.clear();
+    c.input.clear();
+    match r.below(4) {
+        0 => {
+            // Sentences of card A.
+            c.table.extend(&languages[0].table);
+            c.input.push(2);
+            c.input.resize(n, 1);
+        }
+        1 => {
+            // Expressions: number + number * number + ..
+            c.table.extend(&languages[1].table);
+            while c.input.len() < n {
+                let sign = r.between(1, 2) as u8;
+                c.input.extend([5, sign]);
+            }
+            c.input.truncate(n);
+        }
+        2 => {
+            // Every terminal shifts, and state 2 pushes by the empty production 0 without end.
+            c.table.extend([3, 2, 1, 1, 2, 0]);
+            c.table.extend([1024, r.between(1, 2) as u16, 2]);
+            c.table.extend([4096, 1, 0]);
+            c.table.extend([1024, 1024, 2]);
+            c.input.resize(n, 1);
+        }
+        _ => {
+            foreign(r, spare);
+            while spare[1] < 2 {
+                foreign(r, spare);
+            }
+            c.table.extend(&spare[..]);
+            let t = spare[1] as usize;
+            c.input.extend((0..n).map(|_| r.between(1, t - 1) as u8));
+        }
+    }
+    fill(r, &mut c.stack, 70000);
+    fill(r, &mut c.list, 200000);
+    c.limit = r.of(&[150000, u32::MAX]);
+}
