@@ -116,7 +116,7 @@ symbols-each (suc n) m f h = snoc (symbols-each n m f (λ i k. h i (omega arith)
     snoc (Symbols.more a b s) t = Symbols.more a b (snoc s t)
 
 module _ (c : List ℕ) (w : WellFormed c) where
-  right-at : (r d : ℕ) → r < productions c → d < lengthOf c r → startOf c r + d < symbols c
+  pub right-at : (r d : ℕ) → r < productions c → d < lengthOf c r → startOf c r + d < symbols c
   right-at r d h k = omega (arith, start-mono c (productions c) r h, w .sum)
 
   pub formed : Formed (grammarOf c)

@@ -51,3 +51,10 @@ module _ (g : Grammar) where
   pub rightmost-derives : {s p t : List ℕ} → Rightmost g s p t → Derives g s t
   rightmost-derives Rightmost.stop = Derives.stop
   rightmost-derives (Rightmost.step a b r h k e d) = Derives.step a b r h e (rightmost-derives d)
+
+  pub yields-derives : {α p w : List ℕ} → Yields g α p w → Derives g α w
+  yields-derives y = rightmost-derives (simp append-nil at (yields-rightmost [] [] Symbols.none y))
+
+  pub derives-trans : {s t u : List ℕ} → Derives g s t → Derives g t u → Derives g s u
+  derives-trans Derives.stop e = e
+  derives-trans (Derives.step a b r h k d) e = Derives.step a b r h k (derives-trans d e)

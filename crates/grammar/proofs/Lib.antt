@@ -1,3 +1,4 @@
 pub mod CardLaws
 pub mod Yield
 pub mod Derive
+pub mod Closed

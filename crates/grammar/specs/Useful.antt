@@ -23,3 +23,10 @@ module _ (g : Grammar) where
   pub record Nonterminal (x : ℕ) : Type 0 where
     pub from : g.terminals ≤ x
     pub below : x < g.terminals + g.nonterminals
+
+  -- "10, with the lowest such name": k is the lowest nonterminal that is not useful; T+N where all are
+  pub record LowestUseless (k : ℕ) : Type 0 where
+    pub from : g.terminals ≤ k
+    pub to : k ≤ g.terminals + g.nonterminals
+    pub before : (x : ℕ) → g.terminals ≤ x → x < k → Useful x
+    pub here : k < g.terminals + g.nonterminals → Useful k → ⊥

@@ -5,7 +5,8 @@ use mathlib.Core.List.{List, [], _++_}
 use Prim.Native.Nat.{ℕ, _+_, _-_, _≤_, _<_}
 use native.Mathlib.Omega.{arith}
 use lib.ListN.{length, getD, drop, replicate, length-append, length-drop, length-replicate, List·getD-append}
-use Rattle.lalr.specs.Generator.{Answer, made, answerOf, tableOf, writes, covered, tableLeft, generated}
+use Rattle.sets.specs.Lists.{covered}
+use Rattle.lalr.specs.Generator.{Answer, made, answerOf, tableOf, writes, tableLeft, generated}
 
 pub covered-length : (n : ℕ) (l area : List ℕ) → length l ≤ n → n ≤ length area → length (covered n l area) ≡ length area
 unfolding covered

@@ -11,7 +11,8 @@ use lib.Dec.{ltb}
 use borrow.Author.Tests.{lt-ltb, le-ltb}
 use Rattle.grammar.specs.Card.{formFault, grammarOf}
 use Rattle.lr.specs.Cells.{Table}
-use Rattle.lalr.specs.Generator.{Answer, made, refused, answerOf, cardAnswer, tableOf, writes, covered, tableLeft, Generated, generated}
+use Rattle.sets.specs.Lists.{covered}
+use Rattle.lalr.specs.Generator.{Answer, made, refused, answerOf, cardAnswer, tableOf, writes, tableLeft, Generated, generated}
 use Rattle.lalr.specs.Meaning.{Judged}
 use Rattle.lalr.proofs.AreaLaws.{covered-length}
 use Rattle.lalr.proofs.Main.{card-answer, only-table}

@@ -10,8 +10,9 @@ use lib.Pow.{pow-pos}
 use lib.Arith.{digits-div, digits-mod, digits-lt}
 use lib.Dec.{eqb}
 use borrow.Author.Tests.{eqb-true, eq-eqb}
-use Rattle.grammar.specs.Grammar.{Grammar, Formed, Symbols}
+use Rattle.grammar.specs.Grammar.{Grammar, Formed, Symbols, Derives}
 use Rattle.grammar.proofs.Yield.{Yields, nil, terminal, nonterminal, append, Split, parts, split}
+use Rattle.grammar.proofs.Derive.{derives-yields, yields-derives}
 use Rattle.lr.proofs.ItemLaws.{AllProductive, all-made}
 use Rattle.lr.specs.Items
 use Rattle.lr.proofs.Firsts.{FirstYields, yields, empty, first-yields, first-begins, first-follows}
@@ -22,7 +23,7 @@ use Rattle.lalr.specs.Sets.{upFrom}
 use Rattle.lalr.proofs.Members.{All, all-stay}
 use Rattle.lalr.proofs.Reach.{reach-only, reach-all, reach-start}
 use Rattle.lalr.proofs.Lists.{not-true, not-cons, up-in, up-from, all-of, all-in, set-of, each-in, each-from, From, from, when-in, when-from}
-use Rattle.lalr.proofs.NonterminalLaws.{Null, null, nullables-exact}
+use Rattle.lalr.proofs.NonterminalLaws.{nullables-exact}
 
 cons-head : {x y : ℕ} {xs ys : List ℕ} → _≡_ {A = List ℕ} (x ∷ xs) (y ∷ ys) → x ≡ y
 cons-head e = cc
@@ -57,8 +58,8 @@ module _ (g : Grammar) where
     starts-more : {x b : ℕ} {l : List ℕ} → Symbols (g.terminals + g.nonterminals) l → Starts (x ∷ []) b → Starts (x ∷ l) b
     starts-more s (starts y) = let m = all-made g f pr s in starts (append g y (m .2))
 
-    starts-behind : {x b : ℕ} {l : List ℕ} → Null g (x ∷ []) → Starts l b → Starts (x ∷ l) b
-    starts-behind (null y) (starts z) = starts (append g y z)
+    starts-behind : {x b : ℕ} {l : List ℕ} → Derives g (x ∷ []) [] → Starts l b → Starts (x ∷ l) b
+    starts-behind d (starts z) = starts (append g (derives-yields g d Symbols.none .1) z)
 
     may-sound : (x b : ℕ) {l : List ℕ} → Symbols (g.terminals + g.nonterminals) l → mayBegin g e x l ≡ true → Starts (x ∷ []) b → Starts l b
     may-sound x b Symbols.none h y = absurd (not-true h refl)
@@ -136,7 +137,7 @@ module _ (g : Grammar) where
     led {b} (terminal {a} {α} h k y) ev hb = let q : a ≡ b = cons-head ev in record { by = a; below = omega arith; may = may-here a α; there = rw (← q) (own-there a h k) }
     led {b} (nonterminal {α} {u = []} r h x z) ev hb =
         let t = led z ev hb in
-        record { by = t .by; below = t .below; may = may-later (t .by) (g.left r) α (nullables-exact g f (g.left r) .1 (null (nonterminal r h x nil))) (t .may); there = t .there }
+        record { by = t .by; below = t .below; may = may-later (t .by) (g.left r) α (nullables-exact g f (g.left r) .1 (yields-derives g (nonterminal r h x nil))) (t .may); there = t .there }
     led {b} (nonterminal {α} {u = c ∷ u} r h x z) ev hb =
         let q : c ≡ b = cons-head ev in
         record { by = g.left r; below = f.left-below r h; may = may-here (g.left r) α; there = step h hb (led x (ap (λ (i : ℕ). i ∷ u) q) hb) }
@@ -159,9 +160,9 @@ module _ (g : Grammar) where
         back (starts y) = let t = led y refl hb in rw (one x (t .by) (t .may)) (t .there)
 
     -- FIRST of a string
-    first-more : {x a b : ℕ} {β : List ℕ} → Null g (x ∷ []) → FirstYields g β a b → Items.First g (x ∷ β) a b
-    first-more (null y) (yields z) = first-begins g (append g y z)
-    first-more (null y) (empty z q) = first-follows g (append g y z) q
+    first-more : {x a b : ℕ} {β : List ℕ} → Derives g (x ∷ []) [] → FirstYields g β a b → Items.First g (x ∷ β) a b
+    first-more d (yields z) = first-begins g (append g (derives-yields g d Symbols.none .1) z)
+    first-more d (empty z q) = first-follows g (append g (derives-yields g d Symbols.none .1) z) q
 
     first-here : {x a b : ℕ} {β : List ℕ} → Symbols (g.terminals + g.nonterminals) β → Starts (x ∷ []) b → Items.First g (x ∷ β) a b
     first-here s (starts y) = let m = all-made g f pr s in first-begins g (append g y (m .2))
@@ -194,10 +195,10 @@ module _ (g : Grammar) where
     in-all a b hb (x ∷ β) (yields y) = go (split g (x ∷ []) y) refl (λ fi. in-all a b hb β fi)
       where
         go : {p v w : List ℕ} → Split g (x ∷ []) β p v → v ≡ b ∷ w → (FirstYields g β a b → inFirst g e (firsts g) β a b ≡ true) → inFirst g e (firsts g) (x ∷ β) a b ≡ true
-        go (parts {w₁ = []} {w₂ = v} y z) q ih = in-later x a b β (nullables-exact g f x .1 (null y)) (ih (yields (rw q at z)))
+        go (parts {w₁ = []} {w₂ = v} y z) q ih = in-later x a b β (nullables-exact g f x .1 (yields-derives g y)) (ih (yields (rw q at z)))
         go (parts {w₁ = c ∷ u} y z) q ih = in-here x a b β (firsts-exact x b hb .1 (starts (rw (cons-head q) at y)))
     in-all a b hb (x ∷ β) (empty y k) = go (split g (x ∷ []) y) refl (λ fi. in-all a b hb β fi)
       where
         go : {p v : List ℕ} → Split g (x ∷ []) β p v → v ≡ [] → (FirstYields g β a b → inFirst g e (firsts g) β a b ≡ true) → inFirst g e (firsts g) (x ∷ β) a b ≡ true
-        go (parts {w₁ = []} {w₂ = v} y z) q ih = in-later x a b β (nullables-exact g f x .1 (null y)) (ih (empty (rw q at z) k))
+        go (parts {w₁ = []} {w₂ = v} y z) q ih = in-later x a b β (nullables-exact g f x .1 (yields-derives g y)) (ih (empty (rw q at z) k))
         go (parts {w₁ = c ∷ u} y z) q ih = absurd (not-cons (sym q))

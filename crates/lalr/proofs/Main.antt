@@ -21,7 +21,7 @@ use Rattle.lr.specs.Items.{walk, First, Lookahead}
 use Rattle.lr.specs.States.{States}
 use Rattle.lr.specs.Cells.{Table}
 use Rattle.lr.specs.Relations.{Lookback}
-use Rattle.lr.proofs.Firsts.{yields-derives, first-yields}
+use Rattle.lr.proofs.Firsts.{first-yields}
 use Rattle.lr.proofs.ItemLaws.{AllProductive}
 use Rattle.lr.proofs.Paths.{merged-exact}
 use Rattle.lr.proofs.OneTable.{one-table, numbers-small, width-is}
@@ -31,7 +31,7 @@ use Rattle.lalr.specs.Lalr
 use Rattle.lalr.specs.Lalr.{states}
 use Rattle.lalr.specs.Generator.{Answer, made, grammarAnswer, cardAnswer, tableOf}
 use Rattle.lalr.specs.Meaning.{Judged, AllUseful}
-use Rattle.lalr.proofs.NonterminalLaws.{Null, null, nullables-exact}
+use Rattle.lalr.proofs.NonterminalLaws.{nullables-exact, productive-exact}
 use Rattle.lalr.proofs.UsefulLaws
 use Rattle.lalr.proofs.FirstLaws.{in-sound, in-all}
 use Rattle.lalr.proofs.Judge
@@ -48,13 +48,10 @@ module _ (c : List ℕ) (h : formFault c ≡ 0) where
 
   -- the sets of symbols
   pub nullable-is : (x : ℕ) → (bit (nullables (grammarOf c)) x ≡ true) ↔ Derives (grammarOf c) (x ∷ []) []
-  nullable-is x = (λ b. to (nullables-exact (grammarOf c) f x .0 b), λ d. nullables-exact (grammarOf c) f x .1 (null (derives-yields (grammarOf c) d Symbols.none .1)))
-    where
-      to : Null (grammarOf c) (x ∷ []) → Derives (grammarOf c) (x ∷ []) []
-      to (null y) = yields-derives (grammarOf c) y
+  nullable-is x = nullables-exact (grammarOf c) f x
 
   pub productive-is : (x : ℕ) → (bit (productive (grammarOf c)) x ≡ true) ↔ Productive (grammarOf c) x
-  productive-is x = UsefulLaws.productive-is (grammarOf c) f x
+  productive-is x = productive-exact (grammarOf c) f x
 
   pub reachable-is : (x : ℕ) → (bit (reachable (grammarOf c)) x ≡ true) ↔ Reachable (grammarOf c) x
   reachable-is x = UsefulLaws.reachable-exact (grammarOf c) f x

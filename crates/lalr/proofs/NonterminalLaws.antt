@@ -7,9 +7,9 @@ use Prim.Native.Nat.{ℕ, _+_, _-_, _^_, _≤_, _<_}
 use native.Mathlib.Omega.{arith}
 use native.Mathlib.Nat.{le-refl}
 use lib.Pow.{pow-pos}
-use Rattle.grammar.specs.Grammar.{Grammar, Formed}
-use Rattle.grammar.proofs.Yield.{Yields, nil, terminal, nonterminal, append}
-use Rattle.lr.proofs.Least
+use Rattle.grammar.specs.Grammar.{Grammar, Formed, Derives}
+use Rattle.grammar.specs.Useful.{Productive}
+use Rattle.grammar.proofs.Closed
 use Rattle.sets.specs.Bit.{bit}
 use Rattle.lalr.specs.Sets.{with′, withAll, sweep}
 use Rattle.lalr.specs.Sets.{every}
@@ -21,29 +21,23 @@ use Rattle.lalr.proofs.Least.{settle-keeps, least-still}
 use Rattle.lalr.proofs.Sweep.{sweep-keeps, sweep-grows, sweep-still}
 use Rattle.lalr.proofs.Lists.{not-true, up-in, up-from, all-of, all-in, set-of}
 
-pub every-all : (s : ℕ) (l : List ℕ) → every (bit s) l ≡ true → Least.All (λ x. bit s x ≡ true) l
-every-all s [] e = Least.none
+pub every-all : (s : ℕ) (l : List ℕ) → every (bit s) l ≡ true → Closed.All (λ x. bit s x ≡ true) l
+every-all s [] e = Closed.none
 every-all s (x ∷ l) e = go (bit s x) refl (λ k. every-all s l k)
   where
-    go : (b : Bool) → bit s x ≡ b → (every (bit s) l ≡ true → Least.All (λ x. bit s x ≡ true) l) → Least.All (λ x. bit s x ≡ true) (x ∷ l)
-    go true h ih = Least.more h (ih (rw (h, every) at e))
+    go : (b : Bool) → bit s x ≡ b → (every (bit s) l ≡ true → Closed.All (λ x. bit s x ≡ true) l) → Closed.All (λ x. bit s x ≡ true) (x ∷ l)
+    go true h ih = Closed.more h (ih (rw (h, every) at e))
     go false h ih = absurd (not-true (rw (h, every) at e) refl)
 
-pub all-every : (s : ℕ) {l : List ℕ} → Least.All (λ x. bit s x ≡ true) l → every (bit s) l ≡ true
-all-every s Least.none = refl
-all-every s (Least.more h a) = rw (h, every) (all-every s a)
+pub all-every : (s : ℕ) {l : List ℕ} → Closed.All (λ x. bit s x ≡ true) l → every (bit s) l ≡ true
+all-every s Closed.none = refl
+all-every s (Closed.more h a) = rw (h, every) (all-every s a)
 
-all-map : {P Q : ℕ → Type 0} → ((x : ℕ) → P x → Q x) → {l : List ℕ} → Least.All P l → Least.All Q l
-all-map f Least.none = Least.none
-all-map f (Least.more h a) = Least.more (f _ h) (all-map f a)
+all-map : {P Q : ℕ → Type 0} → ((x : ℕ) → P x → Q x) → {l : List ℕ} → Closed.All P l → Closed.All Q l
+all-map f Closed.none = Closed.none
+all-map f (Closed.more h a) = Closed.more (f _ h) (all-map f a)
 
 module _ (g : Grammar) where
-  pub data Null (β : List ℕ) : Type 0 where
-    null : {p : List ℕ} → Yields g β p [] → Null β
-
-  pub data Prod (β : List ℕ) : Type 0 where
-    prod : {p w : List ℕ} → Yields g β p w → Prod β
-
   learn-taken : (r s : ℕ) → every (bit s) (g.right r) ≡ true → learn g r s ≡ with′ s (g.left r)
   learn-taken r s e = rw (e, learn)
 
@@ -55,7 +49,7 @@ module _ (g : Grammar) where
       go false e = rw (e, learn) (le-refl s)
 
   -- what holds of the seed and, by each production, passes from the right side to the left
-  module _ (P : ℕ → Type 0) (production : (r : ℕ) → r < g.productions → Least.All P (g.right r) → P (g.left r)) where
+  module _ (P : ℕ → Type 0) (production : (r : ℕ) → r < g.productions → Closed.All P (g.right r) → P (g.left r)) where
     learn-only : (r s : ℕ) → r < g.productions → ((j : ℕ) → bit s j ≡ true → P j) → (j : ℕ) → bit (learn g r s) j ≡ true → P j
     learn-only r s h p = go (every (bit s) (g.right r)) refl
       where
@@ -88,7 +82,7 @@ module _ (g : Grammar) where
         go true e = rw (e, learn) (with-stays (size g) s (g.left r) (f.left-below r h) b)
         go false e = rw (e, learn) b
 
-    pub learned-closed : (s : ℕ) → s < 2 ^ size g → (r : ℕ) → r < g.productions → Least.All (λ x. bit (learned g s) x ≡ true) (g.right r) → bit (learned g s) (g.left r) ≡ true
+    pub learned-closed : (s : ℕ) → s < 2 ^ size g → (r : ℕ) → r < g.productions → Closed.All (λ x. bit (learned g s) x ≡ true) (g.right r) → bit (learned g s) (g.left r) ≡ true
     learned-closed s b r h a =
         let t : ℕ = learned g s in
         let still : sweep (learn g) g.productions 0 (learned g s) ≡ learned g s =
@@ -98,54 +92,25 @@ module _ (g : Grammar) where
         let w : with′ (learned g s) (g.left r) ≡ learned g s = sym (learn-taken r (learned g s) (all-every (learned g s) a)) ∙ v in
         subst (λ (x : ℕ). bit x (g.left r) ≡ true) w (has-with-same (learned g s) (g.left r))
 
-    null-all : {l : List ℕ} → Least.All (λ x. Null (x ∷ [])) l → Null l
-    null-all Least.none = null nil
-    null-all (Least.more h a) = go h (null-all a)
-      where
-        go : {x : ℕ} {l : List ℕ} → Null (x ∷ []) → Null l → Null (x ∷ l)
-        go (null y) (null z) = null (append g y z)
-
-    null-production : (r : ℕ) → r < g.productions → Null (g.right r) → Null (g.left r ∷ [])
-    null-production r h (null y) = null (nonterminal r h y nil)
-
-    all-one : {P : ℕ → Type 0} {x : ℕ} {l : List ℕ} → Least.All P (x ∷ l) → P x
-    all-one (Least.more h a) = h
-
-    pub nullables-exact : (x : ℕ) → (bit (nullables g) x ≡ true) ↔ Null (x ∷ [])
+    pub nullables-exact : (x : ℕ) → (bit (nullables g) x ≡ true) ↔ Derives g (x ∷ []) []
     unfolding nullables
     nullables-exact x = (
-      learned-only (λ x. Null (x ∷ [])) (λ r h a. null-production r h (null-all a)) 0 (λ j e. absurd (not-true e (bit-zero j))) x,
-      back,
+      learned-only (λ x. Derives g (x ∷ []) []) (Closed.nullable-left g) 0 (λ j e. absurd (not-true e (bit-zero j))) x,
+      Closed.nullable-least g (λ x. bit (learned g 0) x ≡ true) (learned-closed 0 (pow-pos (size g))),
     )
-      where
-        back : Null (x ∷ []) → bit (learned g 0) x ≡ true
-        back (null y) = all-one (Least.nullable-in g (λ x. bit (learned g 0) x ≡ true) (learned-closed 0 (pow-pos (size g))) y refl)
 
-    prod-all : {l : List ℕ} → Least.All (λ x. Prod (x ∷ [])) l → Prod l
-    prod-all Least.none = prod nil
-    prod-all (Least.more h a) = go h (prod-all a)
-      where
-        go : {x : ℕ} {l : List ℕ} → Prod (x ∷ []) → Prod l → Prod (x ∷ l)
-        go (prod y) (prod z) = prod (append g y z)
-
-    prod-production : (r : ℕ) → r < g.productions → Prod (g.right r) → Prod (g.left r ∷ [])
-    prod-production r h (prod y) = prod (nonterminal r h y nil)
-
-    pub productive-exact : (x : ℕ) → (bit (productive g) x ≡ true) ↔ Prod (x ∷ [])
+    pub productive-exact : (x : ℕ) → (bit (productive g) x ≡ true) ↔ Productive g x
     unfolding productive
     productive-exact x = (
-      learned-only (λ x. Prod (x ∷ [])) (λ r h a. prod-production r h (prod-all a)) (withAll 0 (upFrom 1 (g.terminals - 1))) first x,
-      back,
+      learned-only (Productive g) (Closed.productive-left g) (withAll 0 (upFrom 1 (g.terminals - 1))) first x,
+      Closed.productive-least g (λ x. bit (learned g (withAll 0 (upFrom 1 (g.terminals - 1)))) x ≡ true) (learned-closed (withAll 0 (upFrom 1 (g.terminals - 1))) small) terminals-in,
     )
       where
-        first : (j : ℕ) → bit (withAll 0 (upFrom 1 (g.terminals - 1))) j ≡ true → Prod (j ∷ [])
-        first j e = let t = up-from 1 (g.terminals - 1) j (set-of (upFrom 1 (g.terminals - 1)) j e) in let a : 1 ≤ j = t .0 in let b : j < 1 + (g.terminals - 1) = t .1 in prod (terminal {a = j} (omega arith) (omega arith) nil)
+        first : (j : ℕ) → bit (withAll 0 (upFrom 1 (g.terminals - 1))) j ≡ true → Productive g j
+        first j e = let t = up-from 1 (g.terminals - 1) j (set-of (upFrom 1 (g.terminals - 1)) j e) in let a : 1 ≤ j = t .0 in let b : j < 1 + (g.terminals - 1) = t .1 in Closed.productive-terminal g j (omega arith) (omega arith)
 
         terminals-in : (a : ℕ) → 0 < a → a < g.terminals → bit (learned g (withAll 0 (upFrom 1 (g.terminals - 1)))) a ≡ true
         terminals-in a h k = learned-start (withAll 0 (upFrom 1 (g.terminals - 1))) a (all-in 0 (upFrom 1 (g.terminals - 1)) a (up-in 1 (g.terminals - 1) a (omega arith) (omega arith)))
 
         small : withAll 0 (upFrom 1 (g.terminals - 1)) < 2 ^ size g
         small = all-stay (size g) 0 (all-of (upFrom 1 (g.terminals - 1)) (λ j m. let t = up-from 1 (g.terminals - 1) j m in let b : j < 1 + (g.terminals - 1) = t .1 in let c : 0 < g.terminals = f.end-marker in omega arith)) (pow-pos (size g))
-
-        back : Prod (x ∷ []) → bit (learned g (withAll 0 (upFrom 1 (g.terminals - 1)))) x ≡ true
-        back (prod y) = all-one (Least.productive-in g (λ x. bit (learned g (withAll 0 (upFrom 1 (g.terminals - 1)))) x ≡ true) (learned-closed (withAll 0 (upFrom 1 (g.terminals - 1))) small) terminals-in y)

@@ -1,11 +1,12 @@
 -- The maker as a function of all lists of numbers: its answer in the order of the refusals 1 to 13, the table, and what the three lent areas hold after each answer.
 use mathlib.Core.Bool.{Bool, true, false, cond}
-use mathlib.Core.List.{List, [], _∷_, _++_}
-use Prim.Native.Nat.{ℕ, zero, suc, _+_, _-_}
-use lib.ListN.{length, drop, replicate}
+use mathlib.Core.List.{List, [], _∷_}
+use Prim.Native.Nat.{ℕ, zero, suc, _+_}
+use lib.ListN.{length}
 use lib.Dec.{ltb}
 use Rattle.grammar.specs.Grammar.{Grammar}
 use Rattle.grammar.specs.Card.{terminals, nonterminals, productions, leftOf, lengthOf, formFault, grammarOf}
+use Rattle.sets.specs.Lists.{covered}
 use Rattle.tables.specs.Layout.{build}
 use Rattle.lr.specs.States.{nonterminalTransitions}
 use Rattle.lalr.specs.Nonterminals.{uselessNonterminal}
@@ -102,10 +103,6 @@ writes made = true
 writes (refused n) = ltb 10 n
 writes (uselessAt x) = false
 writes (conflict q m v w) = true
-
--- the first n places hold l and zeros behind it; places beyond never change
-unfoldable pub covered : ℕ → List ℕ → List ℕ → List ℕ
-covered n l area = l ++ (replicate (n - length l) 0 ++ drop n area)
 
 -- "After a table, the rest of the first 32,004 places .. are zero", "after 11 to 13 all three areas are zero over the lengths given"
 abbrev pub tableLeft : Answer → List ℕ → List ℕ

@@ -1,10 +1,10 @@
 -- FIRST by big-step derivation, which the proofs use.
 use Prim.Native.Nat.{ℕ}
 use mathlib.Core.Path.{_≡_}
-use mathlib.Core.List.{List, [], _∷_, append-nil}
-use Rattle.grammar.specs.Grammar.{Grammar, Symbols, Derives}
+use mathlib.Core.List.{List, [], _∷_}
+use Rattle.grammar.specs.Grammar.{Grammar, Symbols}
 use Rattle.grammar.proofs.Yield.{Yields, yield-terminals}
-use Rattle.grammar.proofs.Derive.{derives-yields, yields-rightmost, rightmost-derives}
+use Rattle.grammar.proofs.Derive.{derives-yields, yields-derives}
 use Rattle.lr.specs.Items.{First, begins, follows}
 
 pub data FirstYields (g : Grammar) (β : List ℕ) (a : ℕ) : ℕ → Type 0 where
@@ -12,14 +12,11 @@ pub data FirstYields (g : Grammar) (β : List ℕ) (a : ℕ) : ℕ → Type 0 wh
   empty : {p : List ℕ} {b : ℕ} → Yields g β p [] → b ≡ a → FirstYields g β a b
 
 module _ (g : Grammar) where
-  pub yields-derives : {β p w : List ℕ} → Yields g β p w → Derives g β w
-  yields-derives y = rightmost-derives g (simp append-nil at (yields-rightmost g [] [] Symbols.none y))
-
   pub first-begins : {β p w : List ℕ} {a b : ℕ} → Yields g β p (b ∷ w) → First g β a b
-  first-begins y = begins (yield-terminals g y) (yields-derives y)
+  first-begins y = begins (yield-terminals g y) (yields-derives g y)
 
   pub first-follows : {β p : List ℕ} {a b : ℕ} → Yields g β p [] → b ≡ a → First g β a b
-  first-follows y e = follows (yields-derives y) e
+  first-follows y e = follows (yields-derives g y) e
 
   pub first-yields : {β : List ℕ} {a b : ℕ} → First g β a b → FirstYields g β a b
   first-yields (begins m d) = yields (derives-yields g d m .1)

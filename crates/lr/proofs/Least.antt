@@ -1,44 +1,16 @@
--- What computed sets need to be the sets of the theory: closed, and each member shown. And every numbered state is reached.
+-- A closed set of items holds every item of the theory. And every numbered state is reached.
 use Prim.Native.Nat.{ℕ, suc, zero, _<_}
-use mathlib.Core.Path.{_≡_, refl, sym}
+use mathlib.Core.Path.{_≡_, sym}
 use mathlib.Core.Logic.{_≢_}
 use mathlib.Core.List.{List, [], _∷_, _++_}
 use lib.ListN.{drop}
 use native.Mathlib.Omega.{arith}
 use native.Mathlib.Decide.{ℕ-discrete}
 use Rattle.grammar.specs.Grammar.{Grammar, Formed}
-use Rattle.grammar.proofs.Yield.{Yields, nil, terminal, nonterminal}
 use Rattle.lr.specs.Items
 use Rattle.lr.proofs.ItemLaws.{AllProductive}
 use Rattle.lr.proofs.Automaton.{Automaton, walk, walk-snoc}
 use Rattle.lr.proofs.RelationLaws.{Reached, went, after-viable}
-
-pub data All (s : ℕ → Type 0) : List ℕ → Type 0 where
-  none : All s []
-  more : {a : ℕ} {w : List ℕ} → s a → All s w → All s (a ∷ w)
-
-empty-parts : (u v : List ℕ) → u ++ v ≡ [] → (u ≡ []) × (v ≡ [])
-empty-parts [] v e = (refl, e)
-empty-parts (a ∷ u) v e = absurd (bad e)
-  where
-    bad : {l : List ℕ} → _≡_ {A = List ℕ} (a ∷ l) [] → ⊥
-    bad e = let z : _≡_ {A = ℕ} 0 1 = cc in omega arith
-
-module _ (g : Grammar) (s : ℕ → Type 0) (closed : (r : ℕ) → r < g.productions → All s (g.right r) → s (g.left r)) where
-  -- a set that holds each production's left side with its right side holds every nonterminal that yields nothing
-  pub nullable-in : {β p w : List ℕ} → Yields g β p w → w ≡ [] → All s β
-  nullable-in nil e = none
-  nullable-in (terminal h k y) e = absurd (empty-bad e)
-    where
-      empty-bad : {a : ℕ} {l : List ℕ} → _≡_ {A = List ℕ} (a ∷ l) [] → ⊥
-      empty-bad e = let z : _≡_ {A = ℕ} 0 1 = cc in omega arith
-  nullable-in (nonterminal {u = u} {v = v} r h x y) e = let t = empty-parts u v e in more (closed r h (nullable-in x (t .0))) (nullable-in y (t .1))
-
-  -- and, with the terminals in it, every nonterminal that yields some terminals
-  pub productive-in : ((a : ℕ) → 0 < a → a < g.terminals → s a) → {β p w : List ℕ} → Yields g β p w → All s β
-  productive-in terminals nil = none
-  productive-in terminals (terminal h k y) = more (terminals _ h k) (productive-in terminals y)
-  productive-in terminals (nonterminal r h x y) = more (closed r h (productive-in terminals x)) (productive-in terminals y)
 
 -- a set of LR(1) items by states that is closed holds every item of the theory
 pub record Closed1 (g : Grammar) (next : ℕ → ℕ → ℕ) (s : ℕ → ℕ → ℕ → ℕ → Type 0) : Type 0 where

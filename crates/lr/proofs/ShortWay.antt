@@ -5,12 +5,11 @@ use mathlib.Core.Logic.{_↔_, _≢_, _⊎_, inl, inr}
 use mathlib.Core.List.{List, [], _∷_, _++_}
 use Rattle.grammar.specs.Grammar.{Grammar, Formed, Symbols, Derives}
 use Rattle.grammar.proofs.Yield.{Yields}
-use Rattle.grammar.proofs.Derive.{derives-yields}
+use Rattle.grammar.proofs.Derive.{derives-yields, yields-derives}
 use Rattle.lr.specs.Items.{walk, Lookahead}
 use Rattle.lr.specs.States.{States}
 use Rattle.lr.specs.Relations
 use Rattle.lr.specs.Relations.{Reaches, Union, union, Transition, Direct, shifted, ended, Read, Follow, Lookback}
-use Rattle.lr.proofs.Firsts.{yields-derives}
 use Rattle.lr.proofs.ItemLaws.{AllProductive}
 use Rattle.lr.proofs.Automaton.{Automaton}
 use Rattle.lr.proofs.Paths.{Has, state-automaton}

@@ -1,0 +1,9 @@
+pub mod SameStates
+pub mod RightSides
+pub mod Numbering
+pub mod Counting
+pub mod Nullability
+pub mod LeadsLaws
+pub mod EdgeLaws
+pub mod FollowLaws
+pub mod ActionLaws

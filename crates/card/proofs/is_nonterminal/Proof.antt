@@ -1,0 +1,42 @@
+use borrow.Author.Needs.{needs}
+use Rattle.grammar.specs.Card.{isNonterminal}
+use Rattle.card.proofs.is_nonterminal.Statement.{statement}
+use Rattle.card.proofs.is_nonterminal.Tie as tie
+
+terminals-requires : tie.Need-terminals-requires
+terminals-requires c κs = search needs
+
+wider-requires : tie.Need-wider-requires
+wider-requires c κs = search needs
+
+nonterminals-requires : tie.Need-nonterminals-requires
+nonterminals-requires c κs = search needs
+
+wider-requires-2 : tie.Need-wider-requires-2
+wider-requires-2 c κs = search needs
+
+add-end : tie.Need-add-end
+add-end c = search needs
+
+terminals-requires-2 : tie.Need-terminals-requires-2
+terminals-requires-2 c κs = search needs
+
+wider-requires-3 : tie.Need-wider-requires-3
+wider-requires-3 c κs = search needs
+
+returns : tie.Need-returns
+unfolding isNonterminal
+returns c = cc
+
+pub is-nonterminal-spec : {M : Type 1} → statement M
+is-nonterminal-spec =
+    tie.close
+    (tie.spec
+    terminals-requires
+    wider-requires
+    nonterminals-requires
+    wider-requires-2
+    add-end
+    terminals-requires-2
+    wider-requires-3
+    returns)

@@ -1,0 +1,170 @@
+// The grammar card: its numbers, each with an answer for every slice, and the first refusal of its form.
+ghost use mathlib.Core.Path.{_≡_};
+ghost use lib.ListN.{getD};
+ghost use Rattle.sets.specs.Tests.{between as betweenOf};
+ghost use Rattle.grammar.specs.Card.{terminals as terminalsOf, nonterminals as nonterminalsOf, productions as productionsOf, symbols as symbolsOf, leftOf, lengthOf, symbolOf, startOf, isNonterminal, isSymbol, sizesOk, leftsOk, rightsOk, formFault};
+
+pub fn wide(x: u16) -> usize
+    ensures { λ r. ⌜ r ≡ x ⌝ }
+{
+    x as usize
+}
+
+pub fn wide32(x: u32) -> usize
+    ensures { λ r. ⌜ r ≡ x ⌝ }
+{
+    x as usize
+}
+
+pub fn wider(x: u16) -> u32
+    ensures { λ r. ⌜ r ≡ x ⌝ }
+{
+    x as u32
+}
+
+// The number at place i, and 0 past the end.
+pub fn at(s: &[u16], i: usize) -> u16
+    ensures { λ r. ⌜ r ≡ getD (now (s .entry)) i 0 ⌝ }
+{
+    if i < s.len() { s[i] } else { 0 }
+}
+
+// T, N, P and L.
+pub fn terminals(c: &[u16]) -> u16
+    ensures { λ v. ⌜ v ≡ terminalsOf (now (c .entry)) ⌝ }
+{
+    at(c, 0)
+}
+
+pub fn nonterminals(c: &[u16]) -> u16
+    ensures { λ v. ⌜ v ≡ nonterminalsOf (now (c .entry)) ⌝ }
+{
+    at(c, 1)
+}
+
+pub fn productions(c: &[u16]) -> u16
+    ensures { λ v. ⌜ v ≡ productionsOf (now (c .entry)) ⌝ }
+{
+    at(c, 2)
+}
+
+pub fn symbols(c: &[u16]) -> u16
+    ensures { λ v. ⌜ v ≡ symbolsOf (now (c .entry)) ⌝ }
+{
+    at(c, 3)
+}
+
+// The left side of production r, and the length of its right side.
+pub fn left(c: &[u16], r: u16) -> u16
+    ensures { λ v. ⌜ v ≡ leftOf (now (c .entry)) r ⌝ }
+{
+    at(c, 4 + wide(r))
+}
+
+pub fn length(c: &[u16], r: u16) -> u16
+    ensures { λ v. ⌜ v ≡ lengthOf (now (c .entry)) r ⌝ }
+{
+    at(c, 4 + wide(productions(c)) + wide(r))
+}
+
+// The k-th symbol of all right sides.
+pub fn symbol(c: &[u16], k: u32) -> u16
+    ensures { λ v. ⌜ v ≡ symbolOf (now (c .entry)) k ⌝ }
+{
+    at(c, 4 + 2 * wide(productions(c)) + wide32(k))
+}
+
+// Where the symbols of production r begin, counted from 0.
+pub fn start(c: &[u16], r: u16) -> u32
+    ensures { λ v. ⌜ v ≡ startOf (now (c .entry)) r ⌝ }
+{
+    let mut s: u32 = 0;
+    let mut i: u16 = 0;
+    while i < r {
+        s += wider(length(c, i));
+        i += 1;
+    }
+    s
+}
+
+fn between(lo: u16, hi: u16, x: u16) -> bool
+    ensures { λ r. ⌜ r ≡ betweenOf lo hi x ⌝ }
+{
+    (lo <= x) & (x <= hi)
+}
+
+fn sizes_ok(c: &[u16]) -> bool
+    ensures { λ r. ⌜ r ≡ sizesOk (now (c .entry)) ⌝ }
+{
+    let t = between(1, 64, terminals(c));
+    let n = between(1, 60, nonterminals(c));
+    let p = between(1, 128, productions(c));
+    t & (n & (p & (symbols(c) <= 512)))
+}
+
+pub fn is_nonterminal(c: &[u16], x: u16) -> bool
+    ensures { λ r. ⌜ r ≡ isNonterminal (now (c .entry)) x ⌝ }
+{
+    let end = wider(terminals(c)) + wider(nonterminals(c));
+    (terminals(c) <= x) & (wider(x) < end)
+}
+
+fn is_symbol(c: &[u16], x: u16) -> bool
+    ensures { λ r. ⌜ r ≡ isSymbol (now (c .entry)) x ⌝ }
+{
+    let end = wider(terminals(c)) + wider(nonterminals(c));
+    (0 < x) & (wider(x) < end)
+}
+
+fn lefts_ok(c: &[u16]) -> bool
+    ensures { λ r. ⌜ r ≡ leftsOk (now (c .entry)) ⌝ }
+{
+    let n = productions(c);
+    let mut i: u16 = 0;
+    while i < n {
+        if !is_nonterminal(c, left(c, i)) {
+            return false;
+        }
+        i += 1;
+    }
+    true
+}
+
+fn rights_ok(c: &[u16]) -> bool
+    ensures { λ r. ⌜ r ≡ rightsOk (now (c .entry)) ⌝ }
+{
+    let n = wider(symbols(c));
+    let mut i: u32 = 0;
+    while i < n {
+        if !is_symbol(c, symbol(c, i)) {
+            return false;
+        }
+        i += 1;
+    }
+    true
+}
+
+// The first of the refusals 4 to 9 that applies, or 0.
+pub fn form_fault(c: &[u16]) -> u16
+    ensures { λ r. ⌜ r ≡ formFault (now (c .entry)) ⌝ }
+{
+    if c.len() < 4 {
+        return 4;
+    }
+    if !sizes_ok(c) {
+        return 5;
+    }
+    if c.len() != 4 + 2 * wide(productions(c)) + wide(symbols(c)) {
+        return 6;
+    }
+    if !lefts_ok(c) {
+        return 7;
+    }
+    if start(c, productions(c)) != wider(symbols(c)) {
+        return 8;
+    }
+    if !rights_ok(c) {
+        return 9;
+    }
+    0
+}

@@ -1,0 +1,242 @@
+-- Zeros behind what stands in front, at any width of number; the header; and a table area as one list.
+use Prim.Native.Nat.{ℕ, suc, _+_, _*_, _-_, _≤_, _<_}
+use mathlib.Core.Path.{_≡_, refl, sym, ap, _∙_, subst}
+use mathlib.Core.Logic.{_⊎_, inl, inr, ⊎-elim}
+use mathlib.Core.List.{List, [], _∷_, _++_, append-assoc}
+use native.Mathlib.Omega.{arith}
+use native.Mathlib.Numerals.{add-one}
+use lib.ListN.{length, getD, set, take, drop, replicate, length-append, length-drop, length-replicate, length-set, take-append-drop, replicate-append-replicate}
+use lib.Seq.{length-take-le, drop-cons, set-at, getD-take, getD-drop, getD-set-same, getD-set-other, ext-getD}
+use lib.Arith.{digits-lt}
+use Rattle.sets.proofs.HasLaws.{lt-or-ge}
+use Rattle.grammar.specs.Card as card
+use Rattle.tables.specs.Layout.{states, terminals, nonterminals, productions, width, leftOf, lengthOf, cellOf, sizeOf, build}
+use Rattle.tables.proofs.LayoutLaws.{one-list, built-sizes, built-left, built-length, built-cell, built-long}
+use Rattle.cells.specs.Actions.{IsCell}
+use Rattle.sets.specs.Lists.{covered}
+use Rattle.cells.specs.Areas.{sizeFor, placeFor, tableArea, Arrays, Header, Tabled}
+
+-- ---- zeros
+
+pub covered-length : (n : ℕ) (l area : List ℕ) → length l ≤ n → n ≤ length area → length (covered n l area) ≡ length area
+unfolding covered
+covered-length n l area h k =
+    let a : length {A = ℕ} (l ++ (replicate (n - length l) 0 ++ drop n area)) ≡ length l + length {A = ℕ} (replicate (n - length l) 0 ++ drop n area) = length-append l (replicate (n - length l) 0 ++ drop n area) in
+    let b : length {A = ℕ} (replicate (n - length l) 0 ++ drop n area) ≡ length {A = ℕ} (replicate (n - length l) 0) + length (drop n area) = length-append (replicate (n - length l) 0) (drop n area) in
+    let d : length {A = ℕ} (replicate {A = ℕ} (n - length l) 0) ≡ n - length l = length-replicate {A = ℕ} (n - length l) 0 in
+    let e : length (drop n area) ≡ length area - n = length-drop n area in
+    omega arith
+
+-- nothing but the front so far
+pub covered-none : (a : ℕ) (t : List ℕ) → a ≤ length t → t ≡ covered a (take a t) t
+unfolding covered
+covered-none a t h =
+    let e : a - length (take a t) ≡ 0 = omega (arith, length-take-le a t h) in
+    rw e (sym (take-append-drop a t))
+
+-- one zero more
+pub covered-more : (i : ℕ) (l t : List ℕ) → length l ≤ i → i < length t → set (covered i l t) i 0 ≡ covered (i + 1) l t
+unfolding covered
+covered-more i l t h k =
+    let j = i - length l in
+    let z : List ℕ = replicate j 0 in
+    let e : i + 1 - length l ≡ i - length l + 1 = omega arith in
+    let len : length (l ++ replicate {A = ℕ} (i - length l) 0) ≡ i =
+    omega (arith, length-append l (replicate {A = ℕ} (i - length l) 0), length-replicate {A = ℕ} (i - length l) 0)
+    in
+    ap (λ (x : List ℕ). set x i 0) (sym (append-assoc l z (drop i t)) ∙ ap (λ (x : List ℕ). (l ++ z) ++ x) (drop-cons t i 0 k))
+    ∙ set-at (l ++ z) (getD t i 0) (drop (suc i) t) 0 i len
+    ∙ append-assoc l z (0 ∷ drop (suc i) t)
+    ∙ ap (λ (x : List ℕ). l ++ x) (sym (append-assoc z (0 ∷ []) (drop (suc i) t)) ∙ rw (e, add-one i, ← replicate-append-replicate {A = ℕ} j 1 0) refl)
+
+-- the loop that zeros the places from a to k, at place i: one law for numbers of any width
+pub record Clearing (a k : ℕ) (t₀ : List ℕ) (i : ℕ) (t : List ℕ) : Type 0 where
+  pub from : a ≤ i
+  pub to : i ≤ k
+  pub area : t ≡ covered i (take a t₀) t₀
+
+module _ (a k : ℕ) (t₀ : List ℕ) (room : k ≤ length t₀) where
+  pub clearing-none : a ≤ k → Clearing a k t₀ a t₀
+  clearing-none h = record { from = omega arith; to = h; area = covered-none a t₀ (omega arith) }
+
+  front-short : (i : ℕ) → a ≤ i → i ≤ k → length (take a t₀) ≤ i
+  front-short i h g = let e = length-take-le a t₀ (omega arith) in omega arith
+
+  pub clearing-long : {i : ℕ} {t : List ℕ} → Clearing a k t₀ i t → length t ≡ length t₀
+  clearing-long {i} {t} w = ap length (w .area) ∙ covered-length i (take a t₀) t₀ (front-short i (w .from) (w .to)) (omega (arith, w .to))
+
+  pub clearing-more : {i : ℕ} {t : List ℕ} → i < k → Clearing a k t₀ i t → Clearing a k t₀ (i + 1) (set t i 0)
+  clearing-more {i} {t} h w = record {
+    from = omega (arith, w .from);
+    to = omega arith;
+    area = ap (λ (x : List ℕ). set x i 0) (w .area) ∙ covered-more i (take a t₀) t₀ (front-short i (w .from) (w .to)) (omega arith);
+  }
+
+  pub clearing-end : {i : ℕ} {t : List ℕ} → k ≤ i → Clearing a k t₀ i t → t ≡ covered k (take a t₀) t₀
+  clearing-end {i} {t} h w = let e : i ≡ k = omega (arith, w .to) in w .area ∙ ap (λ (x : ℕ). covered x (take a t₀) t₀) e
+
+-- the places from k on are the same
+pub same-behind : (k : ℕ) (t t′ : List ℕ) → length t′ ≡ length t → ((i : ℕ) → k ≤ i → getD t′ i 0 ≡ getD t i 0) → drop k t′ ≡ drop k t
+same-behind k t t′ e h =
+    ext-getD 0 (drop k t′) (drop k t) (length-drop k t′ ∙ ap (λ (x : ℕ). x - k) e ∙ sym (length-drop k t)) (λ i g. getD-drop k t′ i 0 ∙ h (k + i) (omega arith) ∙ sym (getD-drop k t i 0))
+
+pub covered-same : (k : ℕ) (l t t′ : List ℕ) → length t′ ≡ length t → ((i : ℕ) → k ≤ i → getD t′ i 0 ≡ getD t i 0) → covered k l t′ ≡ covered k l t
+unfolding covered
+covered-same k l t t′ e h = rw (same-behind k t t′ e h)
+
+-- ---- the header
+
+module _ (c : List ℕ) (t : List ℕ) where
+  pub arrays-none : Arrays c 0 t t
+  arrays-none = record { long = refl; lefts = λ r h. absurd (omega arith); lengths = λ r h. absurd (omega arith); before = λ i h. refl; behind = λ i h. refl }
+
+  pub arrays-more : (r i j x y : ℕ) (t′ : List ℕ) → r < card.productions c → 4 + 2 * card.productions c ≤ length t → i ≡ 4 + r → j ≡ 4 + card.productions c + r → x ≡ card.leftOf c r → y ≡ card.lengthOf c r
+      → Arrays c r t t′ → Arrays c (r + 1) t (set (set t′ i x) j y)
+  arrays-more r i j x y t′ h room ei ej ex ey a = record {
+    long = length-set (set t′ i x) j y ∙ length-set t′ i x ∙ a .long;
+    lefts = λ k g. ⊎-elim
+        (λ (l : k < r). other (4 + k) (omega arith) (omega arith) ∙ a .lefts k l)
+        (λ (l : r ≤ k).
+        let e : k ≡ r = omega arith in
+        let f : 4 + k ≡ i = omega arith in
+        rw f (getD-set-other (set t′ i x) j i y 0 (λ e. omega arith) ∙ getD-set-same t′ i x 0 (omega (arith, a .long)) ∙ ex ∙ ap (card.leftOf c) (sym e)))
+        (lt-or-ge k r);
+    lengths = λ k g. ⊎-elim
+        (λ (l : k < r). other (4 + card.productions c + k) (omega arith) (omega arith) ∙ a .lengths k l)
+        (λ (l : r ≤ k).
+        let e : k ≡ r = omega arith in
+        let f : 4 + card.productions c + k ≡ j = omega arith in
+        rw f (getD-set-same (set t′ i x) j y 0 (rw (length-set t′ i x) (omega (arith, a .long))) ∙ ey ∙ ap (card.lengthOf c) (sym e)))
+        (lt-or-ge k r);
+    before = λ k g. other k (omega arith) (omega arith) ∙ a .before k g;
+    behind = λ k g. other k (omega arith) (omega arith) ∙ a .behind k g;
+  }
+    where
+      other : (k : ℕ) → (k ≡ i → ⊥) → (k ≡ j → ⊥) → getD (set (set t′ i x) j y) k 0 ≡ getD t′ k 0
+      other k ni nj = getD-set-other (set t′ i x) j k y 0 nj ∙ getD-set-other t′ i k x 0 ni
+
+  pub arrays-end : (r p : ℕ) (t′ : List ℕ) → r ≡ p → Arrays c r t t′ → Arrays c p t t′
+  arrays-end r p t′ e a = subst (λ (x : ℕ). Arrays c x t t′) e a
+
+  pub headed : (n x y p : ℕ) (t′ : List ℕ) → x ≡ card.terminals c → y ≡ card.nonterminals c → p ≡ card.productions c → 4 + 2 * card.productions c ≤ length t
+      → Arrays c (card.productions c) (set (set (set (set t 0 n) 1 x) 2 y) 3 p) t′ → Header c n t t′
+  unfolding states terminals nonterminals productions leftOf lengthOf
+  headed n x y p t′ ex ey ep room a = record {
+    long = a .long ∙ simp length-set;
+    count = a .before 0 (omega arith) ∙ at₀;
+    sizes = (a .before 1 (omega arith) ∙ at₁ ∙ ex, a .before 2 (omega arith) ∙ at₂ ∙ ey, a .before 3 (omega arith) ∙ at₃ ∙ ep);
+    lefts = a .lefts;
+    lengths = λ r h. rw (a .before 3 (omega arith) ∙ at₃ ∙ ep) (a .lengths r h);
+    behind = λ i h. a .behind i h ∙ other i (λ e. omega arith) (λ e. omega arith) (λ e. omega arith) (λ e. omega arith);
+  }
+    where
+      other : (i : ℕ) → (i ≡ 0 → ⊥) → (i ≡ 1 → ⊥) → (i ≡ 2 → ⊥) → (i ≡ 3 → ⊥) → getD (set (set (set (set t 0 n) 1 x) 2 y) 3 p) i 0 ≡ getD t i 0
+      other i a b d e = getD-set-other (set (set (set t 0 n) 1 x) 2 y) 3 i p 0 e ∙ getD-set-other (set (set t 0 n) 1 x) 2 i y 0 d ∙ getD-set-other (set t 0 n) 1 i x 0 b ∙ getD-set-other t 0 i n 0 a
+
+      at₃ : getD (set (set (set (set t 0 n) 1 x) 2 y) 3 p) 3 0 ≡ p
+      at₃ = getD-set-same (set (set (set t 0 n) 1 x) 2 y) 3 p 0 (simp length-set (omega arith))
+
+      at₂ : getD (set (set (set (set t 0 n) 1 x) 2 y) 3 p) 2 0 ≡ y
+      at₂ = getD-set-other (set (set (set t 0 n) 1 x) 2 y) 3 2 p 0 (λ e. omega arith) ∙ getD-set-same (set (set t 0 n) 1 x) 2 y 0 (simp length-set (omega arith))
+
+      at₁ : getD (set (set (set (set t 0 n) 1 x) 2 y) 3 p) 1 0 ≡ x
+      at₁ = getD-set-other (set (set (set t 0 n) 1 x) 2 y) 3 1 p 0 (λ e. omega arith) ∙ getD-set-other (set (set t 0 n) 1 x) 2 1 y 0 (λ e. omega arith)
+          ∙ getD-set-same (set t 0 n) 1 x 0 (simp length-set (omega arith))
+
+      at₀ : getD (set (set (set (set t 0 n) 1 x) 2 y) 3 p) 0 0 ≡ n
+      at₀ = getD-set-other (set (set (set t 0 n) 1 x) 2 y) 3 0 p 0 (λ e. omega arith) ∙ getD-set-other (set (set t 0 n) 1 x) 2 0 y 0 (λ e. omega arith)
+          ∙ getD-set-other (set t 0 n) 1 0 x 0 (λ e. omega arith) ∙ getD-set-same t 0 n 0 (omega arith)
+
+-- ---- the table area
+
+pub product-is : {n x y n′ x′ y′ : ℕ} → n′ ≡ n → x′ ≡ x → y′ ≡ y → n′ * (x′ + y′) ≡ n * (x + y)
+product-is e f g = rw (e, f, g)
+
+module _ (c : List ℕ) (n : ℕ) (t₁ t₂ : List ℕ) (wide : 0 < card.terminals c) (room : sizeFor c n ≤ length t₁) (h : Header c n t₁ t₂) where
+  -- what stands in front, by the places of the cells
+  abbrev cellAt : ℕ → ℕ → ℕ
+  cellAt q x = getD t₁ (placeFor c q x) 0
+
+  abbrev front : List ℕ
+  front = take (sizeFor c n) t₂
+
+  abbrev whole : List ℕ
+  whole = build n (card.terminals c) (card.nonterminals c) (card.productions c) (card.leftOf c) (card.lengthOf c) cellAt
+
+  at-front : (i : ℕ) → i < sizeFor c n → getD front i 0 ≡ getD t₂ i 0
+  at-front i g = getD-take (sizeFor c n) t₂ i 0 g
+
+  front-states : states front ≡ n
+  unfolding states
+  front-states = at-front 0 (omega arith) ∙ h .count
+
+  front-terminals : terminals front ≡ card.terminals c
+  unfolding terminals
+  front-terminals = at-front 1 (omega arith) ∙ h .sizes .0
+
+  front-nonterminals : nonterminals front ≡ card.nonterminals c
+  unfolding nonterminals
+  front-nonterminals = at-front 2 (omega arith) ∙ h .sizes .1
+
+  front-productions : productions front ≡ card.productions c
+  unfolding productions
+  front-productions = at-front 3 (omega arith) ∙ h .sizes .2
+
+  front-width : width front ≡ card.terminals c + card.nonterminals c
+  unfolding width
+  front-width = rw (front-terminals, front-nonterminals)
+
+  front-long : length front ≡ sizeOf front
+  unfolding sizeOf
+  front-long = length-take-le (sizeFor c n) t₂ (omega (arith, h .long)) ∙ rw (front-states, front-width, front-productions)
+
+  front-left : (r : ℕ) → r < productions front → leftOf front r ≡ leftOf whole r
+  unfolding leftOf
+  front-left r g =
+      let g′ : r < card.productions c = rw front-productions at g in
+      at-front (4 + r) (omega arith) ∙ h .lefts r g′ ∙ sym (built-left n (card.terminals c) (card.nonterminals c) (card.productions c) (card.leftOf c) (card.lengthOf c) cellAt r g′)
+
+  length-front : (r : ℕ) → r < card.productions c → lengthOf front r ≡ lengthOf t₂ r
+  unfolding lengthOf
+  length-front r g =
+      let e : productions t₂ ≡ card.productions c = h .sizes .2 in
+      rw (front-productions, e) (at-front (4 + card.productions c + r) (omega arith))
+
+  front-length : (r : ℕ) → r < productions front → lengthOf front r ≡ lengthOf whole r
+  front-length r g =
+      let g′ : r < card.productions c = rw front-productions at g in
+      length-front r g′ ∙ h .lengths r g′ ∙ sym (built-length n (card.terminals c) (card.nonterminals c) (card.productions c) (card.leftOf c) (card.lengthOf c) cellAt r g′)
+
+  front-cell : (q x : ℕ) → q < states front → x < width front → cellOf front q x ≡ cellOf whole q x
+  unfolding cellOf
+  front-cell q x g k =
+      let g′ : q < n = rw front-states at g in
+      let k′ : x < card.terminals c + card.nonterminals c = rw front-width at k in
+      let b : q * (card.terminals c + card.nonterminals c) + x < n * (card.terminals c + card.nonterminals c) = digits-lt g′ k′ in
+      rw (front-productions, front-width) (at-front (4 + 2 * card.productions c + q * (card.terminals c + card.nonterminals c) + x) (omega arith) ∙ h .behind (4 + 2 * card.productions c + q * (card.terminals c + card.nonterminals c) + x) (omega arith))
+      ∙ sym (built-cell n (card.terminals c) (card.nonterminals c) (card.productions c) (card.leftOf c) (card.lengthOf c) cellAt q x g′ k′)
+
+  front-whole : front ≡ whole
+  front-whole =
+      let s = built-sizes n (card.terminals c) (card.nonterminals c) (card.productions c) (card.leftOf c) (card.lengthOf c) cellAt in
+      one-list front whole (rw front-width (omega arith)) front-long (built-long n (card.terminals c) (card.nonterminals c) (card.productions c) (card.leftOf c) (card.lengthOf c) cellAt)
+      (front-states ∙ sym (s .0)) (front-terminals ∙ sym (s .1)) (front-nonterminals ∙ sym (s .2)) (front-productions ∙ sym (s .3)) front-left front-length front-cell
+
+  -- the header, then zeros behind the rows
+  pub finished : (d : ℕ) (t₃ : List ℕ) → d ≡ sizeFor c n → sizeFor c n ≤ 32004 → t₃ ≡ covered 32004 (take d t₂) t₂ → t₃ ≡ tableArea c n t₁
+  unfolding tableArea
+  finished d t₃ s few e =
+      e ∙ ap (λ (x : ℕ). covered 32004 (take x t₂) t₂) s ∙ ap (λ (l : List ℕ). covered 32004 l t₂) front-whole ∙ covered-same 32004 whole t₁ t₂ (h .long) (λ i g. h .behind i (omega arith))
+
+-- rows written in an area that was t₀, then header and zeros: the table
+pub tabled : (c : List ℕ) (n : ℕ) (next : ℕ → ℕ → ℕ) (A : ℕ → ℕ → ℕ → Type 0) (t₀ t₁ t₂ : List ℕ) → length t₁ ≡ length t₀ → ((i : ℕ) → 32004 ≤ i → getD t₁ i 0 ≡ getD t₀ i 0)
+    → ((q m : ℕ) → q < n → m < card.terminals c → IsCell (A q m) (getD t₁ (placeFor c q m) 0))
+    → ((q x : ℕ) → q < n → card.terminals c ≤ x → x < card.terminals c + card.nonterminals c → getD t₁ (placeFor c q x) 0 ≡ next q x)
+    → t₂ ≡ tableArea c n t₁ → Tabled c n next A t₀ t₂
+unfolding tableArea
+tabled c n next A t₀ t₁ t₂ long beyond actions nexts e = record {
+  cell = λ q x. getD t₁ (placeFor c q x) 0;
+  area = e ∙ covered-same 32004 _ t₀ t₁ long beyond;
+  actions = actions;
+  nexts = nexts;
+}

@@ -1,0 +1,168 @@
+// The cells of one state from its words, the header of a table, and the zeroing of areas.
+ghost use mathlib.Core.Path.{_≡_};
+ghost use mathlib.Core.Bool.{true};
+ghost use mathlib.Core.Logic.{_↔_, _≢_};
+ghost use Prim.Native.Nat.{ℕ, _+_, _*_, _<_, _≤_};
+ghost use lib.ListN.{length, take};
+ghost use Rattle.sets.specs.Bit.{bit};
+ghost use Rattle.grammar.specs.Card.{terminals as terminalsOf, productions as productionsOf};
+ghost use Rattle.cells.specs.Actions.{Lowest};
+ghost use Rattle.cells.specs.Words.{Numbers, Two, Sought, Put, Row};
+ghost use Rattle.sets.specs.Lists.{covered};
+ghost use Rattle.cells.specs.Areas.{sizeFor, tableArea, Arrays, Header};
+
+// The terminals at which two numbers of a state meet: it shifts `shifts`, production r has the lookaheads words[r], and it accepts at `accept`.
+pub fn meeting(p: usize, shifts: u64, words: [u64; 128], accept: u64) -> u64
+    requires { ⌜ p ≤ 128 ⌝ }
+    ensures { λ r. ⌜ ((m s : ℕ) → s < 1024 → (bit shifts m ≡ true) ↔ (s ≢ 0) → (bit r m ≡ true) ↔ Two (Numbers p s words accept m)) ⌝ }
+{
+    let mut seen = shifts;
+    let mut twice: u64 = 0;
+    let mut r: usize = 0;
+    while r < p {
+        let v = words[r];
+        twice = twice | (seen & v);
+        seen = seen | v;
+        r += 1;
+    }
+    twice | (seen & accept)
+}
+
+// The number of the lowest production from `start` on that has the lookahead m; 4096 where there is none.
+fn lowest(p: usize, words: [u64; 128], m: u32, start: usize) -> u16
+    requires { ⌜ p ≤ 128 ⌝ }
+    ensures { λ v. ⌜ Sought p words m start v ⌝ }
+{
+    let mut r = start;
+    while r < p {
+        if sets::has(words[r], m) {
+            return 1024 + (r as u16);
+        }
+        r += 1;
+    }
+    4096
+}
+
+pub struct Met {
+    pub lower: u16,
+    pub upper: u16,
+}
+
+// The two lowest numbers at the terminal m, where two meet; s is the state that m is shifted to, 0 where it is not.
+pub fn pair(p: usize, s: u16, words: [u64; 128], m: u32) -> Met
+    requires { ⌜ p ≤ 128 ⌝ }
+    ensures { λ r. ⌜ ((accept : ℕ) → s < 1024 → Two (Numbers p s words accept m) → Lowest (Numbers p s words accept m) (r .lower) (r .upper)) ⌝ }
+{
+    let a = lowest(p, words, m, 0);
+    if s != 0 {
+        return Met { lower: s, upper: a };
+    }
+    let b = lowest(p, words, m, card::wide(a) - 1023);
+    Met { lower: a, upper: b }
+}
+
+// Puts v at the places behind b that the word has.
+fn put(t: &mut [u16], b: usize, word: u64, v: u16)
+    requires { ⌜ b + 64 ≤ length (now t) ⌝ }
+    ensures { λ _. ⌜ Put b word v (now (t .entry)) (now (t .exit)) ⌝ }
+{
+    let mut left = word;
+    while left != 0 {
+        let m = u64::trailing_zeros(left) as usize;
+        t[b + m] = v;
+        left = left & (left - 1);
+    }
+}
+
+// Writes the reductions and the acceptance of a state into its row, which begins at b.
+pub fn write(t: &mut [u16], b: usize, p: usize, words: [u64; 128], accept: u64)
+    requires { ⌜ (p ≤ 128) × (b + 64 ≤ length (now t)) ⌝ }
+    ensures { λ _. ⌜ Row b p words accept (now (t .entry)) (now (t .exit)) ⌝ }
+{
+    let mut r: usize = 0;
+    while r < p {
+        put(t, b, words[r], 1024 + (r as u16));
+        r += 1;
+    }
+    put(t, b, accept, 4096);
+}
+
+// Copies the left sides and the lengths of the card c into the table area, behind the sizes.
+fn arrays(c: &[u16], t: &mut [u16], p: u16)
+    requires { ⌜ (p ≡ productionsOf (now c)) × (4 + 2 * p ≤ length (now t)) ⌝ }
+    ensures { λ _. ⌜ Arrays (now (c .entry)) (productionsOf (now (c .entry))) (now (t .entry)) (now (t .exit)) ⌝ }
+{
+    let mut r: u16 = 0;
+    while r < p {
+        let i = 4 + card::wide(r);
+        let j = 4 + card::wide(p) + card::wide(r);
+        t[i] = card::left(c, r);
+        t[j] = card::length(c, r);
+        r += 1;
+    }
+}
+
+// Writes the header of a table of n states: Q, T, N, P, the left sides and the lengths.
+fn header(c: &[u16], t: &mut [u16], n: u16)
+    requires { ⌜ 4 + 2 * productionsOf (now c) ≤ length (now t) ⌝ }
+    ensures { λ _. ⌜ Header (now (c .entry)) n (now (t .entry)) (now (t .exit)) ⌝ }
+{
+    let p = card::productions(c);
+    t[0] = n;
+    t[1] = card::terminals(c);
+    t[2] = card::nonterminals(c);
+    t[3] = p;
+    arrays(c, t, p);
+}
+
+// The size of the table of n states.
+fn size(c: &[u16], n: u16) -> usize
+    requires { ⌜ sizeFor (now c) n ≤ 32004 ⌝ }
+    ensures { λ r. ⌜ r ≡ sizeFor (now (c .entry)) n ⌝ }
+{
+    let width = card::wide(card::terminals(c)) + card::wide(card::nonterminals(c));
+    4 + 2 * card::wide(card::productions(c)) + card::wide(n) * width
+}
+
+// Makes a table of n rows that stand in the table area: the header in front, zeros behind.
+pub fn finish(c: &[u16], t: &mut [u16], n: u16)
+    requires { ⌜ (0 < terminalsOf (now c)) × (sizeFor (now c) n ≤ 32004) × (32004 ≤ length (now t)) ⌝ }
+    ensures { λ _. ⌜ now (t .exit) ≡ tableArea (now (c .entry)) n (now (t .entry)) ⌝ }
+{
+    header(c, t, n);
+    clear16(t, size(c, n), 32004);
+}
+
+// Zeros the places from a to k, of numbers of each width.
+pub fn clear16(t: &mut [u16], a: usize, k: usize)
+    requires { ⌜ (a ≤ k) × (k ≤ length (now t)) ⌝ }
+    ensures { λ _. ⌜ now (t .exit) ≡ covered k (take a (now (t .entry))) (now (t .entry)) ⌝ }
+{
+    let mut i = a;
+    while i < k {
+        t[i] = 0;
+        i += 1;
+    }
+}
+
+pub fn clear32(t: &mut [u32], a: usize, k: usize)
+    requires { ⌜ (a ≤ k) × (k ≤ length (now t)) ⌝ }
+    ensures { λ _. ⌜ now (t .exit) ≡ covered k (take a (now (t .entry))) (now (t .entry)) ⌝ }
+{
+    let mut i = a;
+    while i < k {
+        t[i] = 0;
+        i += 1;
+    }
+}
+
+pub fn clear64(t: &mut [u64], a: usize, k: usize)
+    requires { ⌜ (a ≤ k) × (k ≤ length (now t)) ⌝ }
+    ensures { λ _. ⌜ now (t .exit) ≡ covered k (take a (now (t .entry))) (now (t .entry)) ⌝ }
+{
+    let mut i = a;
+    while i < k {
+        t[i] = 0;
+        i += 1;
+    }
+}

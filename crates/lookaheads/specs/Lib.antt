@@ -1,0 +1,3 @@
+pub mod LooksBack
+pub mod Joins
+pub mod Outcome

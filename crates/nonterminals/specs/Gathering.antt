@@ -1,0 +1,53 @@
+-- How a set is gathered: round after round each production adds to it, until nothing is new. Only the private functions cite this.
+use Prim.Native.Nat.{ℕ, _+_, _-_, _^_, _<_}
+use mathlib.Core.List.{List, [], _∷_}
+use mathlib.Core.Bool.{cond}
+use lib.Dec.{ltb}
+use lib.Bits.{bitOr}
+use Rattle.sets.specs.Bit.{Has, Within}
+use Rattle.grammar.specs.Grammar.{Grammar, Derives}
+use Rattle.grammar.specs.Card.{terminals, nonterminals, productions, leftOf, rightOf, grammarOf}
+use Rattle.grammar.specs.Useful
+use Rattle.nonterminals.specs.declared.Kind.{Kind}
+use Rattle.nonterminals.specs.declared.Kind.the-variants.{Nullable, Productive, Reachable}
+
+-- x is what a set of the kind gathers
+abbrev pub Means : Grammar → Kind → ℕ → Type 0
+Means g Nullable x = Derives g (x ∷ []) []
+Means g Productive x = Useful.Productive g x
+Means g Reachable x = Useful.Reachable g x
+
+-- symbol x as a set: a nonterminal's bit; t for a terminal
+unfoldable pub wordOf : List ℕ → ℕ → ℕ → ℕ
+wordOf c t x = cond (ltb x (terminals c)) t (2 ^ (x - terminals c))
+
+-- the symbols of a string
+unfoldable pub joinOf : List ℕ → ℕ → List ℕ → ℕ
+joinOf c t [] = 0
+joinOf c t (x ∷ l) = bitOr (wordOf c t x) (joinOf c t l)
+
+-- what must be in a set for production r to add to it, and what it adds; bit 63 is a terminal, and no set has it
+unfoldable pub needsOf : List ℕ → Kind → ℕ → ℕ
+needsOf c Nullable r = joinOf c (2 ^ 63) (rightOf c r)
+needsOf c Productive r = joinOf c 0 (rightOf c r)
+needsOf c Reachable r = wordOf c 0 (leftOf c r)
+
+unfoldable pub givesOf : List ℕ → Kind → ℕ → ℕ
+givesOf c Nullable r = wordOf c 0 (leftOf c r)
+givesOf c Productive r = wordOf c 0 (leftOf c r)
+givesOf c Reachable r = joinOf c 0 (rightOf c r)
+
+-- only nonterminals that are meant are in w
+abbrev pub Sound : List ℕ → Kind → ℕ → Type 0
+Sound c k w = (j : ℕ) → Has w j → (j < nonterminals c) × Means (grammarOf c) k (terminals c + j)
+
+-- after the first n productions: v has w, only what is meant, and what these add to w
+pub record Round (c : List ℕ) (k : Kind) (w n v : ℕ) : Type 0 where
+  pub more : Within w v
+  pub sound : Sound c k v
+  pub all : (r : ℕ) → r < n → Within (needsOf c k r) w → Within (givesOf c k r) v
+
+-- v has w, only what is meant, and all that the productions add to v
+pub record Settled (c : List ℕ) (k : Kind) (w v : ℕ) : Type 0 where
+  pub more : Within w v
+  pub still : Round c k v (productions c) v

@@ -1,0 +1,51 @@
+use mathlib.Core.Path.{refl, _∙_}
+use native.Mathlib.Omega.{arith}
+use Prim.Native.Nat.{_+_, _-_}
+use lib.ListN.{length-set}
+use Rattle.grammar.proofs.CardLaws.{well-formed}
+use Rattle.occurrences.proofs.GatherLaws.{gather-start, gather-few, prepared}
+use borrow.Author.Needs.{needs}
+use Rattle.occurrences.proofs.prepare.Statement.{statement}
+use Rattle.occurrences.proofs.prepare.Tie as tie
+
+clear-requires : tie.Need-clear-requires
+clear-requires c κs = search needs
+
+gather-requires : tie.Need-gather-requires
+gather-requires c κs = (c .before .before .before .before .before .before .before .pre .0, omega (arith, c .before .before .before .clear .ensures .long, c .before .before .before .before .before .before .before .pre .1), gather-start _ _ _ (well-formed _ (c .before .before .before .before .before .before .before .pre .0) .limits .nonterminals-to) (λ j h. c .before .before .before .clear .ensures .zero (8834 + j) (omega arith) (omega arith)))
+
+cast-w : tie.Need-cast-w
+cast-w c = search needs
+
+slice-write-w : tie.Need-slice-write-w
+slice-write-w c = omega (arith, c .before .before .gather .ensures .2, c .before .before .before .before .before .before .clear .ensures .long, c .before .before .before .before .before .before .before .before .before .before .pre .1)
+
+cast-w-2 : tie.Need-cast-w-2
+cast-w-2 c = search needs
+
+slice-write-w-2 : tie.Need-slice-write-w-2
+slice-write-w-2 c = simp length-set (omega (arith, c .before .before .gather .ensures .2, c .before .before .before .before .before .before .clear .ensures .long, c .before .before .before .before .before .before .before .before .before .before .pre .1))
+
+slice-write-w-3 : tie.Need-slice-write-w-3
+slice-write-w-3 c = simp length-set (omega (arith, c .before .before .gather .ensures .2, c .before .before .before .before .before .before .clear .ensures .long, c .before .before .before .before .before .before .before .before .before .before .pre .1))
+
+same-length : tie.Need-same-length
+same-length c = simp length-set (omega (arith, c .before .before .gather .ensures .2, c .before .before .before .before .before .before .clear .ensures .long, c .before .before .before .before .before .before .before .before .before .before .pre .1))
+
+returns : tie.Need-returns
+returns c = prepared _ _ _ _ _ _ _ (c .before .before .before .before .before .before .before .before .before .before .pre .0) (omega (arith, c .before .before .gather .ensures .2, c .before .before .before .before .before .before .clear .ensures .long, c .before .before .before .before .before .before .before .before .before .before .pre .1)) (c .before .before .gather .ensures .2 ∙ c .before .before .before .before .before .before .clear .ensures .long) (λ i h. c .before .before .gather .ensures .3 i (omega arith) ∙ c .before .before .before .before .before .before .clear .ensures .high i (omega arith))
+    (gather-few _ _ _ _ (c .before .before .before .before .before .before .before .before .before .before .pre .0) (c .before .before .gather .ensures .0)) (c .before .before .gather .ensures .0) (c .before .before .gather .ensures .1) refl refl
+
+pub prepare-spec : {M : Type 1} → statement M
+prepare-spec =
+    tie.close
+    (tie.spec
+    clear-requires
+    gather-requires
+    cast-w
+    slice-write-w
+    cast-w-2
+    slice-write-w-2
+    slice-write-w-3
+    same-length
+    returns)

@@ -1,0 +1,86 @@
+// The card's part of phase C: the starts of the right sides, and the occurrences of nonterminals with only nullable symbols behind them.
+ghost use mathlib.Core.Path.{_≡_};
+ghost use Prim.Native.Nat.{ℕ, _<_, _≤_};
+ghost use lib.ListN.{length, getD};
+ghost use Rattle.grammar.specs.Card.{productions, lengthOf, startOf, formFault};
+ghost use Rattle.occurrences.specs.Stores.{Cleared, Occurred};
+ghost use Rattle.occurrences.specs.Gathers.{Gathered, Between, Started, Prepared};
+
+// Zeros from place b to place e.
+pub fn clear(w: &mut [u32], b: usize, e: usize)
+    requires { ⌜ (b ≤ e) × (e ≤ length (now w)) ⌝ }
+    ensures { λ _. ⌜ Cleared (now (w .entry)) b e (now (w .exit)) ⌝ }
+{
+    let mut i = b;
+    while i < e {
+        w[i] = 0;
+        i += 1;
+    }
+}
+
+// Puts symbol d of production r, nonterminal number j, down as occurrence m.
+fn occur(w: &mut [u32], m: u32, r: u32, d: u32, j: u32)
+    requires { ⌜ (m < 512) × (j < 60) × (16384 ≤ length (now w)) ⌝ }
+    ensures { λ _. ⌜ Occurred (now (w .entry)) m r d j (now (w .exit)) ⌝ }
+{
+    let o = card::wide32(m);
+    let l = 8834 + card::wide32(j);
+    w[8895 + o] = r;
+    w[9407 + o] = d;
+    w[9919 + o] = w[l];
+    w[l] = m + 1;
+}
+
+// The occurrences in production r, from its end as far as what is behind is nullable; its symbols begin at s, and m occurrences are there.
+fn tail(c: &[u16], w: &mut [u32], e: u64, r: u16, s: u32, m: u32) -> u32
+    requires { ⌜ (formFault (now c) ≡ 0) × (r < productions (now c)) × (s ≡ startOf (now c) r) × (16384 ≤ length (now w)) × Gathered (now c) e (now w) r (lengthOf (now c) r) m ⌝ }
+    ensures { λ v. ⌜ Gathered (now (c .entry)) e (now (w .exit)) r 0 v × Between (now (w .entry)) (now (w .exit)) ⌝ }
+{
+    let t = card::wider(card::terminals(c));
+    let mut d = card::wider(card::length(c, r));
+    let mut k = m;
+    while 0 < d {
+        d -= 1;
+        let x = card::wider(card::symbol(c, s + d));
+        if x < t {
+            return k;
+        }
+        occur(w, k, card::wider(r), d, x - t);
+        k += 1;
+        if !sets::has(e, x - t) {
+            return k;
+        }
+    }
+    k
+}
+
+// The starts of the right sides and the occurrences in them; the answer is how many.
+fn gather(c: &[u16], w: &mut [u32], e: u64) -> u32
+    requires { ⌜ (formFault (now c) ≡ 0) × (16384 ≤ length (now w)) × Gathered (now c) e (now w) 0 (lengthOf (now c) 0) 0 ⌝ }
+    ensures { λ m. ⌜ Gathered (now (c .entry)) e (now (w .exit)) (productions (now (c .entry))) (lengthOf (now (c .entry)) (productions (now (c .entry)))) m × Started (now (c .entry)) (now (w .exit)) (productions (now (c .entry))) × (length (now (w .exit)) ≡ length (now (w .entry))) × ((i : ℕ) → 10431 ≤ i → getD (now (w .exit)) i 0 ≡ getD (now (w .entry)) i 0) ⌝ }
+{
+    let p = card::productions(c);
+    let mut s: u32 = 0;
+    let mut m: u32 = 0;
+    let mut r: u16 = 0;
+    while r < p {
+        let i = 8705 + card::wide(r);
+        w[i] = s;
+        m = tail(c, w, e, r, s, m);
+        s += card::wider(card::length(c, r));
+        r += 1;
+    }
+    m
+}
+
+// All that the card gives, with the nullable nonterminals e.
+pub fn prepare(c: &[u16], w: &mut [u32], e: u64)
+    requires { ⌜ (formFault (now c) ≡ 0) × (16384 ≤ length (now w)) ⌝ }
+    ensures { λ _. ⌜ Prepared (now (c .entry)) e (now (w .entry)) (now (w .exit)) ⌝ }
+{
+    clear(w, 8834, 8894);
+    let m = gather(c, w, e);
+    w[10431] = (e % 4294967296) as u32;
+    w[10432] = (e / 4294967296) as u32;
+    w[10433] = m;
+}

@@ -1,0 +1,5 @@
+pub mod StateLaws
+pub mod PathLaws
+pub mod ReadLaws
+pub mod IncludeLaws
+pub mod KindLaws

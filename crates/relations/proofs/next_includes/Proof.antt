@@ -1,0 +1,110 @@
+use borrow.Author.Needs.{needs}
+use mathlib.Core.Path.{refl, sym, ap, _∙_}
+use native.Mathlib.Omega.{arith}
+use mathlib.Core.Bool.{true≢false}
+use denote.Ref.{now}
+use Rattle.grammar.specs.Card.{leftOf}
+use Rattle.grammar.proofs.CardLaws.{well-formed}
+use Rattle.relations.specs.Walk.{roomOf}
+use Rattle.relations.proofs.IncludeLaws.{Reached, reached-start, reached-found, reached-skip, reached-link, reached-end, fewer, occurs-at, link-below}
+use Rattle.relations.proofs.next_includes.Statement.{statement}
+use Rattle.relations.proofs.next_includes.Tie as tie
+
+abbrev Inv-loop : tie.InvT-loop
+Inv-loop c w x cursor q at₀ set₀ at set = Reached c w x (cursor .at) (cursor .set) at set
+
+abbrev μ-loop : tie.MeasureT-loop
+μ-loop c w x cursor q at₀ set₀ at set = roomOf 1 w x at set
+
+leaves-requires : tie.Need-leaves-requires Inv-loop μ-loop
+leaves-requires c κs = search needs
+
+loop-holds : tie.Need-loop-holds Inv-loop μ-loop
+loop-holds c = reached-start _ _ _ _ _ (c .before .before .before .before .pre .sound .includes (λ z. omega arith))
+
+lowest-requires : tie.Need-lowest-requires Inv-loop μ-loop
+lowest-requires c κs = search needs
+
+without-requires : tie.Need-without-requires Inv-loop μ-loop
+without-requires c κs = search needs
+
+sub-production : tie.Need-sub-production Inv-loop μ-loop
+sub-production c = search needs
+
+production-requires : tie.Need-production-requires Inv-loop μ-loop
+production-requires c κs = search needs
+
+cast-left : tie.Need-cast-left Inv-loop μ-loop
+cast-left c = let p = c .before .before .before .before .before .before .before .before .before .before .pre in
+    let o = occurs-at _ _ (p .nodes) (c .before .before .before .before .before .loop .at) (p .ready) (c .before .before .before .before .loop-test .taken) (c .before .before .before .before .before .loop .inv .stands .within) in
+    let m = well-formed _ (p .ready .formed) .limits .productions-to in
+    omega (arith, o .production, m, c .production .ensures)
+
+left-requires : tie.Need-left-requires Inv-loop μ-loop
+left-requires c κs = search needs
+
+wider-requires : tie.Need-wider-requires Inv-loop μ-loop
+wider-requires c κs = search needs
+
+index-requires : tie.Need-index-requires Inv-loop μ-loop
+index-requires c κs = search needs
+
+returns : tie.Need-returns Inv-loop μ-loop
+returns c = λ k O. reached-found _ _ _ _ _ _ _ (c .before .before .before .before .before .before .before .before .before .loop .inv) _ (c .before .before .before .before .before .before .before .lowest .ensures) (c .before .before .before .before .before .before .if1 .taken) _ (c .before .before .before .before .before .without .ensures) _ (λ k O. rw (c .before .before .wider .ensures ∙ c .before .before .before .left .ensures ∙ ap (leftOf (now (c .before .before .before .before .before .before .before .before .before .before .before .before .before .before .args .c))) (c .before .before .before .before .production .ensures)) at (c .before .index .ensures _ k O)) k O (omega arith) (c .if2 .taken) (c .before .before .before .before .before .before .before .before .before .before .before .before .before .before .args .cursor) refl refl
+
+loop-less : tie.Need-loop-less Inv-loop μ-loop
+loop-less c = fewer _ _ _ _ _ _ _ (c .before .before .before .before .before .before .before .before .before .loop .inv) _ (c .before .before .before .before .before .before .before .lowest .ensures) (c .before .before .before .before .before .before .if1 .taken) _ (c .before .before .before .before .before .without .ensures) _ (λ k O. rw (c .before .before .wider .ensures ∙ c .before .before .before .left .ensures ∙ ap (leftOf (now (c .before .before .before .before .before .before .before .before .before .before .before .before .before .before .args .c))) (c .before .before .before .before .production .ensures)) at (c .before .index .ensures _ k O))
+
+loop-again : tie.Need-loop-again Inv-loop μ-loop
+loop-again c = reached-skip _ _ _ _ _ _ _ (c .before .before .before .before .before .before .before .before .before .loop .inv) _ (c .before .before .before .before .before .before .before .lowest .ensures) (c .before .before .before .before .before .before .if1 .taken) _ (c .before .before .before .before .before .without .ensures) _ (λ k O. rw (c .before .before .wider .ensures ∙ c .before .before .before .left .ensures ∙ ap (leftOf (now (c .before .before .before .before .before .before .before .before .before .before .before .before .before .before .args .c))) (c .before .before .before .before .production .ensures)) at (c .before .index .ensures _ k O)) (c .if2 .left)
+
+sub-link : tie.Need-sub-link Inv-loop μ-loop
+sub-link c = search needs
+
+link-requires : tie.Need-link-requires Inv-loop μ-loop
+link-requires c κs = search needs
+
+opened-requires : tie.Need-opened-requires Inv-loop μ-loop
+opened-requires c κs = let p = c .before .before .before .before .before .before .before .before .before .pre in
+    ((p .nodes, p .ready), rw (c .before .before .before .before .before .before .leaves .ensures) (p .ready .leaves _ (p .below)), rw (c .link .ensures) (link-below _ _ (p .nodes) (c .before .before .before .before .loop .at) (p .ready) (c .before .before .before .loop-test .taken) (c .before .before .before .before .loop .inv .stands .within)))
+
+loop-less-2 : tie.Need-loop-less-2 Inv-loop μ-loop
+loop-less-2 c = rw (c .before .link .ensures) (reached-link _ _ _ _ _ _ _ (c .before .before .before .before .before .loop .inv) (c .before .before .before .before .before .before .before .before .before .before .pre .nodes) _ _ (c .before .before .before .before .before .before .before .before .before .before .pre .ready) (omega arith) (c .before .before .before .lowest .ensures) (c .before .before .if1 .left) (rw (c .before .before .before .before .before .before .before .leaves .ensures, c .before .link .ensures) at (c .opened .ensures)) .0)
+
+loop-again-2 : tie.Need-loop-again-2 Inv-loop μ-loop
+loop-again-2 c = rw (c .before .link .ensures) (reached-link _ _ _ _ _ _ _ (c .before .before .before .before .before .loop .inv) (c .before .before .before .before .before .before .before .before .before .before .pre .nodes) _ _ (c .before .before .before .before .before .before .before .before .before .before .pre .ready) (omega arith) (c .before .before .before .lowest .ensures) (c .before .before .if1 .left) (rw (c .before .before .before .before .before .before .before .leaves .ensures, c .before .link .ensures) at (c .opened .ensures)) .1)
+
+returns-2 : tie.Need-returns-2 Inv-loop μ-loop
+returns-2 c = λ k O. record {
+  here = λ t. absurd (true≢false (sym t));
+  after = λ t. absurd (true≢false (sym t));
+  less = λ t. absurd (true≢false (sym t));
+  sound = λ t. absurd (true≢false (sym t));
+  none = λ t y l. reached-end _ _ _ _ _ _ _ (c .before .loop .inv) k O (c .loop-test .left) y (l .inside) (l .includes (λ z. omega arith));
+}
+
+pub next-includes-spec : {M : Type 1} → statement M
+next-includes-spec =
+    tie.close
+    (tie.spec
+    Inv-loop
+    μ-loop
+    leaves-requires
+    loop-holds
+    lowest-requires
+    without-requires
+    sub-production
+    production-requires
+    cast-left
+    left-requires
+    wider-requires
+    index-requires
+    returns
+    loop-less
+    loop-again
+    sub-link
+    link-requires
+    opened-requires
+    loop-less-2
+    loop-again-2
+    returns-2)

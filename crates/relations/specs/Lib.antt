@@ -1,0 +1,4 @@
+pub mod Path
+pub mod Edge
+pub mod Walk
+pub mod Steps

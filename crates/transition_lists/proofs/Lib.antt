@@ -1,0 +1,4 @@
+pub mod StoreLaws
+pub mod PassLaws
+pub mod DataLaws
+pub mod WordLaws

@@ -1,0 +1,38 @@
+use mathlib.Core.Path.{sym, _∙_}
+use Rattle.transition_lists.proofs.WordLaws.{ending-none, ending-one}
+use borrow.Author.Needs.{needs}
+use Rattle.transition_lists.proofs.ending.Statement.{statement}
+use Rattle.transition_lists.proofs.ending.Tie as tie
+
+leaves-requires : tie.Need-leaves-requires
+leaves-requires c κs = search needs
+
+returns : tie.Need-returns
+returns c = ending-none _ _ _ (λ z. c .if1 .taken (c .before .leaves .ensures ∙ z .state))
+
+nonterminal-requires : tie.Need-nonterminal-requires
+nonterminal-requires c κs = search needs
+
+terminals-requires : tie.Need-terminals-requires
+terminals-requires c κs = search needs
+
+wider-requires : tie.Need-wider-requires
+wider-requires c κs = search needs
+
+returns-2 : tie.Need-returns-2
+returns-2 c = ending-none _ _ _ (λ z. c .if2 .taken (c .before .before .before .nonterminal .ensures ∙ z .start ∙ sym (c .before .wider .ensures ∙ c .before .before .terminals .ensures)))
+
+returns-3 : tie.Need-returns-3
+returns-3 c = ending-one _ _ _ (record { state = sym (c .before .before .before .before .before .leaves .ensures) ∙ c .before .before .before .before .if1 .left; start = sym (c .before .before .before .nonterminal .ensures) ∙ c .if2 .left ∙ c .before .wider .ensures ∙ c .before .before .terminals .ensures })
+
+pub ending-spec : {M : Type 1} → statement M
+ending-spec =
+    tie.close
+    (tie.spec
+    leaves-requires
+    returns
+    nonterminal-requires
+    terminals-requires
+    wider-requires
+    returns-2
+    returns-3)

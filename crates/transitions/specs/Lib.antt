@@ -1,0 +1,4 @@
+pub mod Area
+pub mod Next
+pub mod Occurrences
+pub mod Data
