@@ -8,17 +8,14 @@ use Rattle.grammar.specs.Card as card
 use Rattle.tables.specs.Layout.{states, terminals, nonterminals, productions, leftOf, lengthOf, build}
 use Rattle.cells.specs.Actions.{IsCell}
 
--- the size of the table of n states of the card c, and the place of the cell of state q and symbol x in it
-abbrev pub sizeFor : List ℕ → ℕ → ℕ
-sizeFor c n = 4 + 2 * card.productions c + n * (card.terminals c + card.nonterminals c)
-
-abbrev pub placeFor : List ℕ → ℕ → ℕ → ℕ
-placeFor c q x = 4 + 2 * card.productions c + q * (card.terminals c + card.nonterminals c) + x
+-- where the row of state q begins in the table area of the card c, which is the size of a table of q states
+abbrev pub rowFor : List ℕ → ℕ → ℕ
+rowFor c q = 4 + 2 * card.productions c + q * (card.terminals c + card.nonterminals c)
 
 -- the table area t with the header in front of its rows, and zeros behind them
 unfoldable pub tableArea : List ℕ → ℕ → List ℕ → List ℕ
 tableArea c n t =
-    covered 32004 (build n (card.terminals c) (card.nonterminals c) (card.productions c) (card.leftOf c) (card.lengthOf c) (λ q x. getD t (placeFor c q x) 0)) t
+    covered 32004 (build n (card.terminals c) (card.nonterminals c) (card.productions c) (card.leftOf c) (card.lengthOf c) (λ q x. getD t (rowFor c q + x) 0)) t
 
 -- the left sides and lengths of the first k productions of the card c stand behind the sizes; other places are as they were
 pub record Arrays (c : List ℕ) (k : ℕ) (t t′ : List ℕ) : Type 0 where

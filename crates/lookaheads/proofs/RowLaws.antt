@@ -19,7 +19,7 @@ use Rattle.transitions.specs.Data.{Ordered, Holds, Shifts}
 use Rattle.cells.specs.Actions.{Act, Single, Lowest, Before, lower-state, lower-terminal, Conflict, IsCell}
 use Rattle.cells.specs.Words.{Numbers, Two, Written, Row}
 use Rattle.sets.specs.Lists.{covered}
-use Rattle.cells.specs.Areas.{sizeFor, tableArea}
+use Rattle.cells.specs.Areas.{rowFor, tableArea}
 use Rattle.cells.proofs.WordLaws.{below-suc, written-cell}
 use Rattle.cells.proofs.AreaLaws.{covered-same, tabled}
 use Rattle.lookaheads.specs.LooksBack.{LooksBack}
@@ -33,6 +33,10 @@ use Rattle.lookaheads.proofs.LookLaws.{accepts-zero, accepts-other, acc
 
 pub cell-at : (t : List ℕ) {b b′ x x′ : ℕ} → b ≡ b′ → x ≡ x′ → getD t (b + x) 0 ≡ getD t (b′ + x′) 0
 cell-at t e f = rw (e, f)
+
+pub row-is : (c : List ℕ) (q : ℕ) → rowFor c q ≡ rowOf c q
+unfolding rowOf
+row-is c q = refl
 
 pub row-next : (c : List ℕ) (q : ℕ) → rowOf c (q + 1) ≡ rowOf c q + (terminals c + nonterminals c)
 unfolding rowOf
@@ -301,7 +305,7 @@ module _ (c t₀ w z : List ℕ) (n k : ℕ) (stage : Stage c t₀ w z n) (o : O
       record { answer = subst (λ (x : ℕ). Rows c (Stands c t₀ w z n k) x t₀ t) e done; long = done .long; beyond = beyond q t h done }
 
   -- 256 rows and the header fit
-  pub size-fits : sizeFor c n ≤ 32004
+  pub size-fits : rowFor c n ≤ 32004
   unfolding rowOf
   size-fits = row-fits c w k o n (stage .numbered .most)
 

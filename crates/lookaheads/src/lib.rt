@@ -95,21 +95,12 @@ fn acceptance(a: u16, q: u16) -> u64
     0
 }
 
-// Where the row of state q begins.
-fn row(c: &[u16], q: u16) -> usize
-    requires { ⌜ rowOf (now c) q ≤ 32004 ⌝ }
-    ensures { λ r. ⌜ r ≡ rowOf (now (c .entry)) q ⌝ }
-{
-    let width = card::wide(card::terminals(c)) + card::wide(card::nonterminals(c));
-    4 + 2 * card::wide(card::productions(c)) + card::wide(q) * width
-}
-
 // The state that the start leads to from state 0.
 fn target(c: &[u16], t: &[u16]) -> u16
     requires { ⌜ rowOf (now c) 0 ≤ 32004 ⌝ }
     ensures { λ r. ⌜ r ≡ getD (now (t .entry)) (rowOf (now (c .entry)) 0 + terminals (now (c .entry))) 0 ⌝ }
 {
-    card::at(t, row(c, 0) + card::wide(card::terminals(c)))
+    card::at(t, cells::row(c, 0) + card::wide(card::terminals(c)))
 }
 
 // The terminals that state q shifts.
@@ -135,7 +126,7 @@ fn conflict(c: &[u16], t: &[u16], w: &[u32], z: &[u64], q: u16, m: u16) -> Clash
 {
     let p = card::wide(card::productions(c));
     let found = words(c, w, z, card::wider(q));
-    let s = card::at(t, row(c, q) + card::wide(m));
+    let s = card::at(t, cells::row(c, q) + card::wide(m));
     let met = cells::pair(p, s, found, card::wider(m));
     let v = met.lower;
     let u = met.upper;
@@ -163,7 +154,7 @@ fn rows(c: &[u16], t: &mut [u16], w: &[u32], z: &[u64], n: u16) -> Clash
             }
             m += 1;
         }
-        cells::write(t, row(c, q), p, found, accept);
+        cells::write(t, cells::row(c, q), p, found, accept);
         q += 1;
     }
     if q < n {

@@ -26,6 +26,13 @@ pub record Between (w w′ : List ℕ) : Type 0 where
 pub record Started (c w : List ℕ) (r : ℕ) : Type 0 where
   pub starts : (s : ℕ) → s < r → startingOf w s ≡ startOf c s
 
+-- all m occurrences and all starts
+pub record Collected (c : List ℕ) (e : ℕ) (w w′ : List ℕ) (m : ℕ) : Type 0 where
+  pub gathered : Gathered c e w′ (productions c) (lengthOf c (productions c)) m
+  pub started : Started c w′ (productions c)
+  pub long : length w′ ≡ length w
+  pub high : (i : ℕ) → 10431 ≤ i → getD w′ i 0 ≡ getD w i 0
+
 -- all that the card gives, for the nullable nonterminals e; places from 10434 on are as they were
 pub record Prepared (c : List ℕ) (e : ℕ) (w w′ : List ℕ) : Type 0 where
   pub starts : Started c w′ (productions c)

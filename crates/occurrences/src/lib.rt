@@ -1,10 +1,10 @@
-// The card's part of phase C: the starts of the right sides, and the occurrences of nonterminals with only nullable symbols behind them.
+// What the relations need of the card: the starts of the right sides, and the occurrences of nonterminals with only nullable symbols behind them.
 ghost use mathlib.Core.Path.{_≡_};
-ghost use Prim.Native.Nat.{ℕ, _<_, _≤_};
-ghost use lib.ListN.{length, getD};
+ghost use Prim.Native.Nat.{_<_, _≤_};
+ghost use lib.ListN.{length};
 ghost use Rattle.grammar.specs.Card.{productions, lengthOf, startOf, formFault};
 ghost use Rattle.occurrences.specs.Stores.{Cleared, Occurred};
-ghost use Rattle.occurrences.specs.Gathers.{Gathered, Between, Started, Prepared};
+ghost use Rattle.occurrences.specs.Gathers.{Gathered, Between, Collected, Prepared};
 
 // Zeros from place b to place e.
 pub fn clear(w: &mut [u32], b: usize, e: usize)
@@ -57,7 +57,7 @@ fn tail(c: &[u16], w: &mut [u32], e: u64, r: u16, s: u32, m: u32) -> u32
 // The starts of the right sides and the occurrences in them; the answer is how many.
 fn gather(c: &[u16], w: &mut [u32], e: u64) -> u32
     requires { ⌜ (formFault (now c) ≡ 0) × (16384 ≤ length (now w)) × Gathered (now c) e (now w) 0 (lengthOf (now c) 0) 0 ⌝ }
-    ensures { λ m. ⌜ Gathered (now (c .entry)) e (now (w .exit)) (productions (now (c .entry))) (lengthOf (now (c .entry)) (productions (now (c .entry)))) m × Started (now (c .entry)) (now (w .exit)) (productions (now (c .entry))) × (length (now (w .exit)) ≡ length (now (w .entry))) × ((i : ℕ) → 10431 ≤ i → getD (now (w .exit)) i 0 ≡ getD (now (w .entry)) i 0) ⌝ }
+    ensures { λ m. ⌜ Collected (now (c .entry)) e (now (w .entry)) (now (w .exit)) m ⌝ }
 {
     let p = card::productions(c);
     let mut s: u32 = 0;

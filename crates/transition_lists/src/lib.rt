@@ -1,4 +1,4 @@
-// Phase C: the nonterminal transitions of the table area and what the relations between them are read from, and their direct reads.
+// The nonterminal transitions of the table area, what the relations between them are read from, and their direct reads.
 ghost use mathlib.Core.Path.{_≡_};
 ghost use mathlib.Core.List.{List};
 ghost use Prim.Native.Nat.{ℕ, _+_, _<_, _≤_};

@@ -1,16 +1,14 @@
-use borrow.Author.Needs.{needs}
-use native.Mathlib.Omega.{arith}
-use mathlib.Core.Path.{_≡_}
-use mathlib.Core.Bool.{true}
-use mathlib.Core.Logic.{_↔_, _≢_}
 use Prim.Native.Nat.{ℕ, _-_, _≤_, _<_}
+use mathlib.Core.Path.{_≡_}
+use mathlib.Core.Logic.{_↔_, _≢_}
+use mathlib.Core.Bool.{true}
+use native.Mathlib.Omega.{arith}
+use borrow.Author.Needs.{needs}
+use Rattle.cells.proofs.WordLaws.{Counted, counted-none, counted-one, counted-last}
 use Rattle.sets.specs.Bit.{bit}
 use Rattle.cells.specs.Words.{Numbers}
-use Rattle.cells.proofs.WordLaws.{Counted, counted-none, counted-one, counted-last}
 use Rattle.cells.proofs.meeting.Statement.{statement}
 use Rattle.cells.proofs.meeting.Tie as tie
-use Rattle.cells.proofs.meeting.Reads as reads
-use Rattle.cells.proofs.meeting.Lts as lts
 
 abbrev Inv-loop : tie.InvT-loop
 Inv-loop p shifts accept words seen₀ twice₀ r₀ seen twice r = (r ≤ p) × ((m s : ℕ) → s < 1024 → (bit shifts m ≡ true) ↔ (s ≢ 0) → Counted (Numbers r s words 0 m) seen twice m)
@@ -18,31 +16,24 @@ Inv-loop p shifts accept words seen₀ twice₀ r₀ seen twice r = (r ≤ p) ×
 abbrev μ-loop : tie.MeasureT-loop
 μ-loop p shifts accept words seen₀ twice₀ r₀ seen twice r = p - r
 
--- src/lib.rt:21:5
 loop-holds : tie.Need-loop-holds Inv-loop μ-loop
 loop-holds c = (omega arith, λ m s h e. counted-none s _ m _ e)
 
--- src/lib.rt:22:17
 mul-v : tie.Need-mul-v Inv-loop μ-loop
 mul-v c = search needs
 
--- src/lib.rt:22:17
 array-read-v : tie.Need-array-read-v Inv-loop μ-loop
 array-read-v c = search needs
 
--- src/lib.rt:25:9
 add-r : tie.Need-add-r Inv-loop μ-loop
 add-r c = search needs
 
--- src/lib.rt:21:5
 loop-less : tie.Need-loop-less Inv-loop μ-loop
 loop-less c = search needs
 
--- src/lib.rt:21:5
 loop-again : tie.Need-loop-again Inv-loop μ-loop
 loop-again c = (omega arith, λ m s h e. counted-one s _ m h _ _ _ (c .before .loop .inv .1 m s h e))
 
--- src/lib.rt:14:1
 returns : tie.Need-returns Inv-loop μ-loop
 returns c = λ m s h e. counted-last s _ m h _ _ _ _ _ (omega arith) (omega arith) (c .before .loop .inv .1 m s h e)
 

@@ -1,34 +1,24 @@
 use native.Mathlib.Omega.{arith}
-use Rattle.cells.proofs.WordLaws.{sought-least, lowest-shift, lowest-others}
 use borrow.Author.Needs.{needs}
+use Rattle.cells.proofs.WordLaws.{sought-least, lowest-shift, lowest-others}
 use Rattle.cells.proofs.pair.Statement.{statement}
 use Rattle.cells.proofs.pair.Tie as tie
-use Rattle.cells.proofs.pair.Reads as reads
-use Rattle.cells.proofs.pair.Lts as lts
-use Rattle.card.proofs.wide.Reads as wide-reads
-use Rattle.cells.proofs.lowest.Reads as lowest-reads
 
--- src/lib.rt:55:9
 lowest-requires : tie.Need-lowest-requires
 lowest-requires c κs = search needs
 
--- src/lib.rt:57:9
 returns : tie.Need-returns
 returns c = λ accept small two. lowest-shift _ _ _ accept _ (c .before .before .pre) small _ (c .if1 .taken) (c .before .lowest .ensures) two
 
--- src/lib.rt:59:33
 wide-requires : tie.Need-wide-requires
 wide-requires c κs = search needs
 
--- src/lib.rt:59:33
 sub-lowest : tie.Need-sub-lowest
 sub-lowest c = omega (arith, c .wide .ensures, sought-least (c .before .before .lowest .ensures))
 
--- src/lib.rt:59:9
 lowest-requires-2 : tie.Need-lowest-requires-2
 lowest-requires-2 c κs = search needs
 
--- src/lib.rt:51:1
 returns-2 : tie.Need-returns-2
 returns-2 c = λ accept small two. lowest-others _ _ _ accept _ (c .before .before .before .before .pre) small _ _ _ (c .before .before .if1 .left) (c .before .before .before .lowest .ensures) (c .before .wide .ensures) (c .lowest2 .ensures) two
 

@@ -1,14 +1,11 @@
-use borrow.Author.Needs.{needs}
+use Prim.Native.Nat.{_-_}
 use native.Mathlib.Omega.{arith}
-use mathlib.Core.Path.{_≡_}
-use Prim.Native.Nat.{ℕ, _-_, _<_, _^_}
 use lib.Bits.{and-le-r}
-use lib.Count.{trailingZeros, trailing-le}
+use lib.Count.{trailing-le}
+use borrow.Author.Needs.{needs}
 use Rattle.cells.proofs.WordLaws.{Putting, putting-none, putting-fits, putting-more, putting-end}
 use Rattle.cells.proofs.put.Statement.{statement}
 use Rattle.cells.proofs.put.Tie as tie
-use Rattle.cells.proofs.put.Reads as reads
-use Rattle.cells.proofs.put.Lts as lts
 
 abbrev Inv-loop : tie.InvT-loop
 Inv-loop t₀ b word v left₀ t left = Putting b word v left t₀ t
@@ -16,43 +13,33 @@ Inv-loop t₀ b word v left₀ t left = Putting b word v left t₀ t
 abbrev μ-loop : tie.MeasureT-loop
 μ-loop t₀ b word v left₀ t left = left
 
--- src/lib.rt:69:5
 loop-holds : tie.Need-loop-holds Inv-loop μ-loop
 loop-holds c = putting-none _ _ _ _ (search needs)
 
--- src/lib.rt:70:17
 cast-m : tie.Need-cast-m Inv-loop μ-loop
 cast-m c = omega (arith, trailing-le 64 (c .before .loop .left))
 
--- src/lib.rt:71:11
 add-t : tie.Need-add-t Inv-loop μ-loop
 add-t c = omega (arith, trailing-le 64 (c .before .loop .left), c .before .loop .inv .long)
 
--- src/lib.rt:71:9
 mul-t : tie.Need-mul-t Inv-loop μ-loop
 mul-t c = omega (arith, putting-fits _ _ _ _ _ _ (c .loop-test .taken) (c .before .before .pre) (c .before .loop .inv))
 
--- src/lib.rt:71:9
 slice-write-t : tie.Need-slice-write-t Inv-loop μ-loop
 slice-write-t c = omega (arith, putting-fits _ _ _ _ _ _ (c .loop-test .taken) (c .before .before .pre) (c .before .loop .inv))
 
--- src/lib.rt:72:24
 sub-left : tie.Need-sub-left Inv-loop μ-loop
 sub-left c = search needs
 
--- src/lib.rt:69:5
 loop-less : tie.Need-loop-less Inv-loop μ-loop
 loop-less c = omega (arith, and-le-r (c .before .loop .left) (c .before .loop .left - 1))
 
--- src/lib.rt:69:5
 loop-again : tie.Need-loop-again Inv-loop μ-loop
 loop-again c = putting-more _ _ _ _ _ _ (c .loop-test .taken) (c .before .before .pre) (c .before .loop .inv)
 
--- src/lib.rt:64:1
 same-length : tie.Need-same-length Inv-loop μ-loop
 same-length c = c .before .loop .inv .long
 
--- src/lib.rt:64:1
 returns : tie.Need-returns Inv-loop μ-loop
 returns c = putting-end _ _ _ _ _ _ (c .loop-test .left) (c .before .loop .inv)
 

@@ -1,14 +1,11 @@
-use borrow.Author.Needs.{needs}
+use Prim.Native.Nat.{_-_, _≤_}
+use mathlib.Core.Path.{_∙_}
 use native.Mathlib.Omega.{arith}
-use mathlib.Core.Path.{_≡_, _∙_}
-use Prim.Native.Nat.{ℕ, _-_, _≤_}
-use Rattle.cells.specs.Words.{Row}
+use borrow.Author.Needs.{needs}
 use Rattle.cells.proofs.WordLaws.{row-none, row-one, row-last}
+use Rattle.cells.specs.Words.{Row}
 use Rattle.cells.proofs.write.Statement.{statement}
 use Rattle.cells.proofs.write.Tie as tie
-use Rattle.cells.proofs.write.Reads as reads
-use Rattle.cells.proofs.write.Lts as lts
-use Rattle.cells.proofs.put.Reads as put-reads
 
 abbrev Inv-loop : tie.InvT-loop
 Inv-loop t₀ b p accept words r₀ t r = (r ≤ p) × Row b r words 0 t₀ t
@@ -16,51 +13,39 @@ Inv-loop t₀ b p accept words r₀ t r = (r ≤ p) × Row b r words 0 t₀ t
 abbrev μ-loop : tie.MeasureT-loop
 μ-loop t₀ b p accept words r₀ t r = p - r
 
--- src/lib.rt:82:5
 loop-holds : tie.Need-loop-holds Inv-loop μ-loop
 loop-holds c = (omega arith, row-none _ _ _)
 
--- src/lib.rt:83:19
 mul-put : tie.Need-mul-put Inv-loop μ-loop
 mul-put c = search needs
 
--- src/lib.rt:83:19
 array-read-put : tie.Need-array-read-put Inv-loop μ-loop
 array-read-put c = search needs
 
--- src/lib.rt:83:37
 cast-put : tie.Need-cast-put Inv-loop μ-loop
 cast-put c = search needs
 
--- src/lib.rt:83:29
 add-put : tie.Need-add-put Inv-loop μ-loop
 add-put c = search needs
 
--- src/lib.rt:83:9
 put-requires : tie.Need-put-requires Inv-loop μ-loop
 put-requires c κs = omega (arith, c .before .before .loop .inv .1 .long, c .before .before .before .before .pre .1)
 
--- src/lib.rt:84:9
 add-r : tie.Need-add-r Inv-loop μ-loop
 add-r c = search needs
 
--- src/lib.rt:82:5
 loop-less : tie.Need-loop-less Inv-loop μ-loop
 loop-less c = search needs
 
--- src/lib.rt:82:5
 loop-again : tie.Need-loop-again Inv-loop μ-loop
 loop-again c = (omega arith, row-one _ _ _ _ _ _ (c .before .before .before .before .before .loop .inv .1) (c .before .before .put .ensures))
 
--- src/lib.rt:86:5
 put-requires-2 : tie.Need-put-requires-2 Inv-loop μ-loop
 put-requires-2 c κs = omega (arith, c .before .before .loop .inv .1 .long, c .before .before .before .before .pre .1)
 
--- src/lib.rt:77:1
 same-length : tie.Need-same-length Inv-loop μ-loop
 same-length c = c .before .before .put2 .ensures .long ∙ c .before .before .before .before .before .loop .inv .1 .long
 
--- src/lib.rt:77:1
 returns : tie.Need-returns Inv-loop μ-loop
 returns c = row-last _ _ _ _ _ _ _ _ (omega arith) (c .before .before .before .before .before .loop .inv .1) (c .before .before .put2 .ensures)
 

@@ -1,61 +1,57 @@
+use mathlib.Core.Path.{_∙_}
 use native.Mathlib.Omega.{arith}
-use mathlib.Core.Path.{_≡_, _∙_}
+use borrow.Author.Needs.{needs}
 use Rattle.transitions.proofs.SymbolLaws.{right-fits}
 use Rattle.lookaheads.proofs.LookLaws.{ends-empty, start-is, ends-test}
-use borrow.Author.Needs.{needs}
 use Rattle.lookaheads.proofs.ends.Statement.{statement}
 use Rattle.lookaheads.proofs.ends.Tie as tie
-use Rattle.lookaheads.proofs.ends.Reads as reads
-use Rattle.lookaheads.proofs.ends.Lts as lts
-use Rattle.card.proofs.length.Reads as length-reads
-use Rattle.card.proofs.symbol.Reads as symbol-reads
-use Rattle.card.proofs.wider.Reads as wider-reads
-use Rattle.transitions.proofs.entering.Reads as entering-reads
-use Rattle.transitions.proofs.starting.Reads as starting-reads
 
--- src/lib.rt:47:25
 length-requires : tie.Need-length-requires
 length-requires c κs = search needs
 
--- src/lib.rt:47:9
 wider-requires : tie.Need-wider-requires
 wider-requires c κs = search needs
 
--- src/lib.rt:49:9
 returns : tie.Need-returns
 returns c = ends-empty _ _ _ _
 
--- src/lib.rt:51:38
 wider-requires-2 : tie.Need-wider-requires-2
 wider-requires-2 c κs = search needs
 
--- src/lib.rt:51:9
 starting-requires : tie.Need-starting-requires
 starting-requires c κs = search needs
 
--- src/lib.rt:52:38
 sub-symbol : tie.Need-sub-symbol
 sub-symbol c = search needs
 
--- src/lib.rt:52:33
 add-symbol : tie.Need-add-symbol
-add-symbol c = let e = start-is _ _ _ _ _ _ (c .before .before .before .before .before .before .before .pre .0 .1) (c .before .before .before .before .before .before .before .pre .1) (c .before .wider2 .ensures) (c .starting .ensures) in let d = c .before .before .before .wider .ensures ∙ c .before .before .before .before .length .ensures in omega (arith, e, d, right-fits (c .before .before .before .before .before .before .before .args .c .now) (c .before .before .before .before .before .before .before .args .r) (c .before .before .before .before .before .before .before .pre .0 .1 .formed) (c .before .before .before .before .before .before .before .pre .1))
+add-symbol c =
+    let b1 = c .before in
+    let b3 = b1 .before .before in
+    let b4 = b3 .before in
+    let b7 = b4 .before .before .before in
+    let e = start-is _ _ _ _ _ _ (b7 .pre .0 .1) (b7 .pre .1) (b1 .wider2 .ensures) (c .starting .ensures) in let d = b3 .wider .ensures ∙ b4 .length .ensures in omega (arith, e, d, right-fits (b7 .args .c .now) (b7 .args .r) (b7 .pre .0 .1 .formed) (b7 .pre .1))
 
--- src/lib.rt:52:17
 symbol-requires : tie.Need-symbol-requires
 symbol-requires c κs = search needs
 
--- src/lib.rt:52:5
 wider-requires-3 : tie.Need-wider-requires-3
 wider-requires-3 c κs = search needs
 
--- src/lib.rt:52:50
 entering-requires : tie.Need-entering-requires
 entering-requires c κs = search needs
 
--- src/lib.rt:43:1
 returns-2 : tie.Need-returns-2
-returns-2 c = ends-test _ _ _ _ _ _ _ _ _ (c .before .before .before .before .before .before .wider .ensures ∙ c .before .before .before .before .before .before .before .length .ensures) (c .before .before .before .before .before .if1 .left) (start-is _ _ _ _ _ _ (c .before .before .before .before .before .before .before .before .before .before .pre .0 .1) (c .before .before .before .before .before .before .before .before .before .before .pre .1) (c .before .before .before .before .wider2 .ensures) (c .before .before .before .starting .ensures)) (c .before .before .symbol .ensures) (c .before .wider3 .ensures) (c .entering .ensures)
+returns-2 c =
+    let b1 = c .before in
+    let b2 = b1 .before in
+    let b3 = b2 .before in
+    let b4 = b3 .before in
+    let b5 = b4 .before in
+    let b6 = b5 .before in
+    let b7 = b6 .before in
+    let b10 = b7 .before .before .before in
+    ends-test _ _ _ _ _ _ _ _ _ (b6 .wider .ensures ∙ b7 .length .ensures) (b5 .if1 .left) (start-is _ _ _ _ _ _ (b10 .pre .0 .1) (b10 .pre .1) (b4 .wider2 .ensures) (b3 .starting .ensures)) (b2 .symbol .ensures) (b1 .wider3 .ensures) (c .entering .ensures)
 
 pub ends-spec : {M : Type 1} → statement M
 ends-spec =

@@ -29,7 +29,9 @@ loop-less : tie.Need-loop-less Inv-loop μ-loop
 loop-less c = search needs
 
 loop-again : tie.Need-loop-again Inv-loop μ-loop
-loop-again c = (omega arith, omega arith, c .before .loop .inv .2, cleared-more _ _ _ _ (c .before .loop .inv .3) (c .before .loop .inv .0) (omega arith))
+loop-again c =
+    let loop = c .before .loop in
+    (omega arith, omega arith, loop .inv .2, cleared-more _ _ _ _ (loop .inv .3) (loop .inv .0) (omega arith))
 
 same-length : tie.Need-same-length Inv-loop μ-loop
 same-length c = c .before .loop .inv .3 .long

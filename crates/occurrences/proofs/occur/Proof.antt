@@ -60,7 +60,11 @@ same-length : tie.Need-same-length
 same-length c = search needs
 
 returns : tie.Need-returns
-returns c = occurred-of _ _ _ _ _ _ _ (c .before .before .before .before .pre .0) (c .before .before .before .before .pre .1) (c .before .before .before .before .pre .2) (c .before .before .wide32 .ensures) (c .before .wide322 .ensures)
+returns c =
+    let pre = c .before .before .before .before .pre in
+    let wide32 = c .before .before .wide32 in
+    let wide322 = c .before .wide322 in
+    occurred-of _ _ _ _ _ _ _ (pre .0) (pre .1) (pre .2) (wide32 .ensures) (wide322 .ensures)
 
 pub occur-spec : {M : Type 1} → statement M
 occur-spec =

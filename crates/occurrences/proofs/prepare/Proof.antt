@@ -12,29 +12,52 @@ clear-requires : tie.Need-clear-requires
 clear-requires c κs = search needs
 
 gather-requires : tie.Need-gather-requires
-gather-requires c κs = (c .before .before .before .before .before .before .before .pre .0, omega (arith, c .before .before .before .clear .ensures .long, c .before .before .before .before .before .before .before .pre .1), gather-start _ _ _ (well-formed _ (c .before .before .before .before .before .before .before .pre .0) .limits .nonterminals-to) (λ j h. c .before .before .before .clear .ensures .zero (8834 + j) (omega arith) (omega arith)))
+gather-requires c κs =
+    let pre = c .before .before .before .before .before .before .before .pre in
+    let clear = c .before .before .before .clear in
+    (pre .0, omega (arith, clear .ensures .long, pre .1), gather-start _ _ _ (well-formed _ (pre .0) .limits .nonterminals-to) (λ j h. clear .ensures .zero (8834 + j) (omega arith) (omega arith)))
 
 cast-w : tie.Need-cast-w
 cast-w c = search needs
 
 slice-write-w : tie.Need-slice-write-w
-slice-write-w c = omega (arith, c .before .before .gather .ensures .2, c .before .before .before .before .before .before .clear .ensures .long, c .before .before .before .before .before .before .before .before .before .before .pre .1)
+slice-write-w c =
+    let pre = c .before .before .before .before .before .before .before .before .before .before .pre in
+    let clear = c .before .before .before .before .before .before .clear in
+    let gather = c .before .before .gather in
+    omega (arith, gather .ensures .long, clear .ensures .long, pre .1)
 
 cast-w-2 : tie.Need-cast-w-2
 cast-w-2 c = search needs
 
 slice-write-w-2 : tie.Need-slice-write-w-2
-slice-write-w-2 c = simp length-set (omega (arith, c .before .before .gather .ensures .2, c .before .before .before .before .before .before .clear .ensures .long, c .before .before .before .before .before .before .before .before .before .before .pre .1))
+slice-write-w-2 c =
+    let pre = c .before .before .before .before .before .before .before .before .before .before .pre in
+    let clear = c .before .before .before .before .before .before .clear in
+    let gather = c .before .before .gather in
+    simp length-set (omega (arith, gather .ensures .long, clear .ensures .long, pre .1))
 
 slice-write-w-3 : tie.Need-slice-write-w-3
-slice-write-w-3 c = simp length-set (omega (arith, c .before .before .gather .ensures .2, c .before .before .before .before .before .before .clear .ensures .long, c .before .before .before .before .before .before .before .before .before .before .pre .1))
+slice-write-w-3 c =
+    let pre = c .before .before .before .before .before .before .before .before .before .before .pre in
+    let clear = c .before .before .before .before .before .before .clear in
+    let gather = c .before .before .gather in
+    simp length-set (omega (arith, gather .ensures .long, clear .ensures .long, pre .1))
 
 same-length : tie.Need-same-length
-same-length c = simp length-set (omega (arith, c .before .before .gather .ensures .2, c .before .before .before .before .before .before .clear .ensures .long, c .before .before .before .before .before .before .before .before .before .before .pre .1))
+same-length c =
+    let pre = c .before .before .before .before .before .before .before .before .before .before .pre in
+    let clear = c .before .before .before .before .before .before .clear in
+    let gather = c .before .before .gather in
+    simp length-set (omega (arith, gather .ensures .long, clear .ensures .long, pre .1))
 
 returns : tie.Need-returns
-returns c = prepared _ _ _ _ _ _ _ (c .before .before .before .before .before .before .before .before .before .before .pre .0) (omega (arith, c .before .before .gather .ensures .2, c .before .before .before .before .before .before .clear .ensures .long, c .before .before .before .before .before .before .before .before .before .before .pre .1)) (c .before .before .gather .ensures .2 ∙ c .before .before .before .before .before .before .clear .ensures .long) (λ i h. c .before .before .gather .ensures .3 i (omega arith) ∙ c .before .before .before .before .before .before .clear .ensures .high i (omega arith))
-    (gather-few _ _ _ _ (c .before .before .before .before .before .before .before .before .before .before .pre .0) (c .before .before .gather .ensures .0)) (c .before .before .gather .ensures .0) (c .before .before .gather .ensures .1) refl refl
+returns c =
+    let pre = c .before .before .before .before .before .before .before .before .before .before .pre in
+    let clear = c .before .before .before .before .before .before .clear in
+    let gather = c .before .before .gather in
+    prepared _ _ _ _ _ _ _ (pre .0) (omega (arith, gather .ensures .long, clear .ensures .long, pre .1)) (gather .ensures .long ∙ clear .ensures .long) (λ i h. gather .ensures .high i (omega arith) ∙ clear .ensures .high i (omega arith))
+    (gather-few _ _ _ _ (pre .0) (gather .ensures .gathered)) (gather .ensures .gathered) (gather .ensures .started) refl refl
 
 pub prepare-spec : {M : Type 1} → statement M
 prepare-spec =

@@ -30,14 +30,23 @@ wider-requires-2 : tie.Need-wider-requires-2 Inv-loop μ-loop
 wider-requires-2 c κs = search needs
 
 loop-holds : tie.Need-loop-holds Inv-loop μ-loop
-loop-holds c = let l : c .wider2 .result ≡ lengthOf (now (c .before .before .before .before .before .before .args .c)) (c .before .before .before .before .before .before .args .r) = c .wider2 .ensures ∙ c .before .length .ensures in
-    (omega arith, rw l (c .before .before .before .before .before .before .pre .4), (λ i h g. absurd (let z : ⊥ = omega arith in z)), between-here _)
+loop-holds c =
+    let args = c .before .before .before .before .before .before .args in
+    let pre = c .before .before .before .before .before .before .pre in
+    let length′ = c .before .length in
+    let wider2 = c .wider2 in
+    let l : wider2 .result ≡ lengthOf (now (args .c)) (args .r) = wider2 .ensures ∙ length′ .ensures in
+    (omega arith, rw l (pre .4), (λ i h g. absurd (let z : ⊥ = omega arith in z)), between-here _)
 
 sub-d : tie.Need-sub-d Inv-loop μ-loop
 sub-d c = search needs
 
 add-symbol : tie.Need-add-symbol Inv-loop μ-loop
-add-symbol c = let f = right-fits _ (c .before .before .before .before .before .before .before .before .args .r) (c .before .before .before .before .before .before .before .before .pre .0) (c .before .before .before .before .before .before .before .before .pre .1) in omega (arith, c .before .before .before .before .before .before .before .before .pre .2, c .before .loop .inv .0)
+add-symbol c =
+    let args = c .before .before .before .before .before .before .before .before .args in
+    let pre = c .before .before .before .before .before .before .before .before .pre in
+    let loop = c .before .loop in
+    let f = right-fits _ (args .r) (pre .0) (pre .1) in omega (arith, pre .2, loop .inv .0)
 
 symbol-requires : tie.Need-symbol-requires Inv-loop μ-loop
 symbol-requires c κs = search needs
@@ -49,36 +58,94 @@ same-length : tie.Need-same-length Inv-loop μ-loop
 same-length c = c .before .before .before .before .loop .inv .3 .long
 
 returns : tie.Need-returns Inv-loop μ-loop
-returns c = (tail-terminal _ _ _ _ (c .before .before .before .loop-test .taken) (c .before .before .before .before .loop .inv .0) _ _ _ (c .before .before .before .before .loop .inv .1) (symbol-is _ _ _ _ _ (c .before .before .before .before .before .before .before .before .before .before .before .pre .2) (c .before .wider3 .ensures ∙ c .before .before .symbol .ensures)) (omega (arith, c .before .before .before .before .before .before .before .wider .ensures, c .before .before .before .before .before .before .before .before .terminals .ensures)), c .before .before .before .before .loop .inv .3)
+returns c =
+    let pre = c .before .before .before .before .before .before .before .before .before .before .before .pre in
+    let terminals′ = c .before .before .before .before .before .before .before .before .terminals in
+    let wider = c .before .before .before .before .before .before .before .wider in
+    let loop = c .before .before .before .before .loop in
+    let loop-test = c .before .before .before .loop-test in
+    let symbol′ = c .before .before .symbol in
+    let wider3 = c .before .wider3 in
+    (tail-terminal _ _ _ _ (loop-test .taken) (loop .inv .0) _ _ _ (loop .inv .1) (symbol-is _ _ _ _ _ (pre .2) (wider3 .ensures ∙ symbol′ .ensures)) (omega (arith, wider .ensures, terminals′ .ensures)), loop .inv .3)
 
 wider-requires-4 : tie.Need-wider-requires-4 Inv-loop μ-loop
 wider-requires-4 c κs = search needs
 
 occur-requires : tie.Need-occur-requires Inv-loop μ-loop
-occur-requires c κs = let f = right-fits _ (c .before .before .before .before .before .before .before .before .before .before .before .before .before .args .r) (c .before .before .before .before .before .before .before .before .before .before .before .before .before .pre .0) (c .before .before .before .before .before .before .before .before .before .before .before .before .before .pre .1) in
-    let x = symbol-is _ _ _ _ _ (c .before .before .before .before .before .before .before .before .before .before .before .before .before .pre .2) (c .before .before .before .wider3 .ensures ∙ c .before .before .before .before .symbol .ensures) in
-    let b = symbol-high _ _ _ (c .before .before .before .before .before .before .before .before .before .before .before .before .before .pre .0) (c .before .before .before .before .before .before .before .before .before .before .before .before .before .pre .1) (tail-inside _ _ (c .before .before .before .before .before .loop-test .taken) (c .before .before .before .before .before .before .loop .inv .0)) in
-    let l = well-formed _ (c .before .before .before .before .before .before .before .before .before .before .before .before .before .pre .0) .limits .nonterminals-to in
-    let m = c .before .before .before .before .before .before .loop .inv .1 .most in
-    (omega arith, omega (arith, x, c .before .before .before .before .before .before .before .before .before .wider .ensures, c .before .before .before .before .before .before .before .before .before .before .terminals .ensures), omega (arith, c .before .before .before .before .before .before .before .before .before .before .before .before .before .pre .3, c .before .before .before .before .before .before .loop .inv .3 .long))
+occur-requires c κs =
+    let args = c .before .before .before .before .before .before .before .before .before .before .before .before .before .args in
+    let pre = c .before .before .before .before .before .before .before .before .before .before .before .before .before .pre in
+    let terminals′ = c .before .before .before .before .before .before .before .before .before .before .terminals in
+    let wider = c .before .before .before .before .before .before .before .before .before .wider in
+    let loop = c .before .before .before .before .before .before .loop in
+    let loop-test = c .before .before .before .before .before .loop-test in
+    let symbol′ = c .before .before .before .before .symbol in
+    let wider3 = c .before .before .before .wider3 in
+    let f = right-fits _ (args .r) (pre .0) (pre .1) in
+    let x = symbol-is _ _ _ _ _ (pre .2) (wider3 .ensures ∙ symbol′ .ensures) in
+    let b = symbol-high _ _ _ (pre .0) (pre .1) (tail-inside _ _ (loop-test .taken) (loop .inv .0)) in
+    let l = well-formed _ (pre .0) .limits .nonterminals-to in
+    let m = loop .inv .1 .most in
+    (omega arith, omega (arith, x, wider .ensures, terminals′ .ensures), omega (arith, pre .3, loop .inv .3 .long))
 
 add-k : tie.Need-add-k Inv-loop μ-loop
-add-k c = let f = right-fits _ (c .before .before .before .before .before .before .before .before .before .before .before .before .before .before .before .before .args .r) (c .before .before .before .before .before .before .before .before .before .before .before .before .before .before .before .before .pre .0) (c .before .before .before .before .before .before .before .before .before .before .before .before .before .before .before .before .pre .1) in let m = c .before .before .before .before .before .before .before .before .before .loop .inv .1 .most in omega arith
+add-k c =
+    let args = c .before .before .before .before .before .before .before .before .before .before .before .before .before .before .before .before .args in
+    let pre = c .before .before .before .before .before .before .before .before .before .before .before .before .before .before .before .before .pre in
+    let loop = c .before .before .before .before .before .before .before .before .before .loop in
+    let f = right-fits _ (args .r) (pre .0) (pre .1) in let m = loop .inv .1 .most in omega arith
 
 has-requires : tie.Need-has-requires Inv-loop μ-loop
 has-requires c κs = search needs
 
 same-length-2 : tie.Need-same-length-2 Inv-loop μ-loop
-same-length-2 c = omega (arith, c .before .before .before .before .occur .ensures .long, c .before .before .before .before .before .before .before .before .before .before .before .loop .inv .3 .long)
+same-length-2 c =
+    let loop = c .before .before .before .before .before .before .before .before .before .before .before .loop in
+    let occur = c .before .before .before .before .occur in
+    omega (arith, occur .ensures .long, loop .inv .3 .long)
 
 returns-2 : tie.Need-returns-2 Inv-loop μ-loop
-returns-2 c = (tail-last _ _ _ _ (c .before .before .before .before .before .before .before .before .before .before .loop-test .taken) (c .before .before .before .before .before .before .before .before .before .before .before .loop .inv .0) _ _ _ _ _ (gather-more _ _ _ _ _ _ (c .before .before .before .before .before .before .before .before .before .before .before .loop .inv .1) _ (well-formed _ (c .before .before .before .before .before .before .before .before .before .before .before .before .before .before .before .before .before .before .pre .0) .limits .nonterminals-to) (c .before .before .before .before .before .before .before .before .before .before .loop-test .taken) (c .before .before .before .before .before .before .before .before .before .before .before .loop .inv .0) _ (tail-number _ _ _ _ _ (c .before .before .before .before .before .before .before .before .before .before .before .before .before .before .wider .ensures ∙ c .before .before .before .before .before .before .before .before .before .before .before .before .before .before .before .terminals .ensures) (c .before .before .before .before .before .before .before .if1 .left) (symbol-is _ _ _ _ _ (c .before .before .before .before .before .before .before .before .before .before .before .before .before .before .before .before .before .before .pre .2) (c .before .before .before .before .before .before .before .before .wider3 .ensures ∙ c .before .before .before .before .before .before .before .before .before .symbol .ensures)) (symbol-high _ _ _ (c .before .before .before .before .before .before .before .before .before .before .before .before .before .before .before .before .before .before .pre .0) (c .before .before .before .before .before .before .before .before .before .before .before .before .before .before .before .before .before .before .pre .1) (tail-inside _ _ (c .before .before .before .before .before .before .before .before .before .before .loop-test .taken) (c .before .before .before .before .before .before .before .before .before .before .before .loop .inv .0)))) (tail-split _ _ _ _ _ (c .before .before .before .before .before .before .before .before .before .before .before .before .before .before .wider .ensures ∙ c .before .before .before .before .before .before .before .before .before .before .before .before .before .before .before .terminals .ensures) (c .before .before .before .before .before .before .before .if1 .left) (symbol-is _ _ _ _ _ (c .before .before .before .before .before .before .before .before .before .before .before .before .before .before .before .before .before .before .pre .2) (c .before .before .before .before .before .before .before .before .wider3 .ensures ∙ c .before .before .before .before .before .before .before .before .before .symbol .ensures))) (tail-occurs _ _ _ _ (c .before .before .before .before .before .before .before .before .before .before .loop-test .taken) (c .before .before .before .before .before .before .before .before .before .before .before .loop .inv .0) _ (c .before .before .before .before .before .before .before .before .before .before .before .before .before .before .before .before .before .before .pre .1) (c .before .before .before .before .before .before .before .before .before .before .before .loop .inv .2) (symbol-is _ _ _ _ _ (c .before .before .before .before .before .before .before .before .before .before .before .before .before .before .before .before .before .before .pre .2) (c .before .before .before .before .before .before .before .before .wider3 .ensures ∙ c .before .before .before .before .before .before .before .before .before .symbol .ensures)) (omega (arith, c .before .before .before .before .before .before .before .before .before .before .before .before .before .before .wider .ensures, c .before .before .before .before .before .before .before .before .before .before .before .before .before .before .before .terminals .ensures))) (rw (c .before .before .before .before .before .wider4 .ensures) at (c .before .before .before .before .occur .ensures))) (symbol-is _ _ _ _ _ (c .before .before .before .before .before .before .before .before .before .before .before .before .before .before .before .before .before .before .pre .2) (c .before .before .before .before .before .before .before .before .wider3 .ensures ∙ c .before .before .before .before .before .before .before .before .before .symbol .ensures)) (c .before .before .before .before .before .before .before .before .before .before .before .before .before .before .wider .ensures ∙ c .before .before .before .before .before .before .before .before .before .before .before .before .before .before .before .terminals .ensures) (c .before .has .ensures) (c .if2 .taken), between-step _ _ _ _ _ _ _ (c .before .before .before .before .before .before .before .before .before .before .before .loop .inv .3) (c .before .before .before .before .occur .ensures))
+returns-2 c =
+    let pre = c .before .before .before .before .before .before .before .before .before .before .before .before .before .before .before .before .before .before .pre in
+    let terminals′ = c .before .before .before .before .before .before .before .before .before .before .before .before .before .before .before .terminals in
+    let wider = c .before .before .before .before .before .before .before .before .before .before .before .before .before .before .wider in
+    let loop = c .before .before .before .before .before .before .before .before .before .before .before .loop in
+    let loop-test = c .before .before .before .before .before .before .before .before .before .before .loop-test in
+    let symbol′ = c .before .before .before .before .before .before .before .before .before .symbol in
+    let wider3 = c .before .before .before .before .before .before .before .before .wider3 in
+    let if1 = c .before .before .before .before .before .before .before .if1 in
+    let wider4 = c .before .before .before .before .before .wider4 in
+    let occur = c .before .before .before .before .occur in
+    let x = symbol-is _ _ _ _ _ (pre .2) (wider3 .ensures ∙ symbol′ .ensures) in
+    let t = wider .ensures ∙ terminals′ .ensures in
+    let inside = tail-inside _ _ (loop-test .taken) (loop .inv .0) in
+    let number = tail-number _ _ _ _ _ t (if1 .left) x (symbol-high _ _ _ (pre .0) (pre .1) inside) in
+    let occurs = tail-occurs _ _ _ _ (loop-test .taken) (loop .inv .0) _ (pre .1) (loop .inv .2) x (omega (arith, wider .ensures, terminals′ .ensures)) in
+    let gathered = gather-more _ _ _ _ _ _ (loop .inv .1) _ (well-formed _ (pre .0) .limits .nonterminals-to) (loop-test .taken) (loop .inv .0) _ number (tail-split _ _ _ _ _ t (if1 .left) x) occurs (rw (wider4 .ensures) at (occur .ensures)) in
+    (tail-last _ _ _ _ (loop-test .taken) (loop .inv .0) _ _ _ _ _ gathered x t (c .before .has .ensures) (c .if2 .taken), between-step _ _ _ _ _ _ _ (loop .inv .3) (occur .ensures))
 
 loop-less : tie.Need-loop-less Inv-loop μ-loop
 loop-less c = search needs
 
 loop-again : tie.Need-loop-again Inv-loop μ-loop
-loop-again c = (omega arith, gather-more _ _ _ _ _ _ (c .before .before .before .before .before .before .before .before .before .before .before .loop .inv .1) _ (well-formed _ (c .before .before .before .before .before .before .before .before .before .before .before .before .before .before .before .before .before .before .pre .0) .limits .nonterminals-to) (c .before .before .before .before .before .before .before .before .before .before .loop-test .taken) (c .before .before .before .before .before .before .before .before .before .before .before .loop .inv .0) _ (tail-number _ _ _ _ _ (c .before .before .before .before .before .before .before .before .before .before .before .before .before .before .wider .ensures ∙ c .before .before .before .before .before .before .before .before .before .before .before .before .before .before .before .terminals .ensures) (c .before .before .before .before .before .before .before .if1 .left) (symbol-is _ _ _ _ _ (c .before .before .before .before .before .before .before .before .before .before .before .before .before .before .before .before .before .before .pre .2) (c .before .before .before .before .before .before .before .before .wider3 .ensures ∙ c .before .before .before .before .before .before .before .before .before .symbol .ensures)) (symbol-high _ _ _ (c .before .before .before .before .before .before .before .before .before .before .before .before .before .before .before .before .before .before .pre .0) (c .before .before .before .before .before .before .before .before .before .before .before .before .before .before .before .before .before .before .pre .1) (tail-inside _ _ (c .before .before .before .before .before .before .before .before .before .before .loop-test .taken) (c .before .before .before .before .before .before .before .before .before .before .before .loop .inv .0)))) (tail-split _ _ _ _ _ (c .before .before .before .before .before .before .before .before .before .before .before .before .before .before .wider .ensures ∙ c .before .before .before .before .before .before .before .before .before .before .before .before .before .before .before .terminals .ensures) (c .before .before .before .before .before .before .before .if1 .left) (symbol-is _ _ _ _ _ (c .before .before .before .before .before .before .before .before .before .before .before .before .before .before .before .before .before .before .pre .2) (c .before .before .before .before .before .before .before .before .wider3 .ensures ∙ c .before .before .before .before .before .before .before .before .before .symbol .ensures))) (tail-occurs _ _ _ _ (c .before .before .before .before .before .before .before .before .before .before .loop-test .taken) (c .before .before .before .before .before .before .before .before .before .before .before .loop .inv .0) _ (c .before .before .before .before .before .before .before .before .before .before .before .before .before .before .before .before .before .before .pre .1) (c .before .before .before .before .before .before .before .before .before .before .before .loop .inv .2) (symbol-is _ _ _ _ _ (c .before .before .before .before .before .before .before .before .before .before .before .before .before .before .before .before .before .before .pre .2) (c .before .before .before .before .before .before .before .before .wider3 .ensures ∙ c .before .before .before .before .before .before .before .before .before .symbol .ensures)) (omega (arith, c .before .before .before .before .before .before .before .before .before .before .before .before .before .before .wider .ensures, c .before .before .before .before .before .before .before .before .before .before .before .before .before .before .before .terminals .ensures))) (rw (c .before .before .before .before .before .wider4 .ensures) at (c .before .before .before .before .occur .ensures)), tail-null _ _ _ _ (c .before .before .before .before .before .before .before .before .before .before .loop-test .taken) (c .before .before .before .before .before .before .before .before .before .before .before .loop .inv .0) _ _ _ (c .before .before .before .before .before .before .before .before .before .before .before .loop .inv .2) (symbol-is _ _ _ _ _ (c .before .before .before .before .before .before .before .before .before .before .before .before .before .before .before .before .before .before .pre .2) (c .before .before .before .before .before .before .before .before .wider3 .ensures ∙ c .before .before .before .before .before .before .before .before .before .symbol .ensures)) (c .before .before .before .before .before .before .before .before .before .before .before .before .before .before .wider .ensures ∙ c .before .before .before .before .before .before .before .before .before .before .before .before .before .before .before .terminals .ensures) (c .before .before .before .before .before .before .before .if1 .left) (c .before .has .ensures) (c .if2 .left), between-step _ _ _ _ _ _ _ (c .before .before .before .before .before .before .before .before .before .before .before .loop .inv .3) (c .before .before .before .before .occur .ensures))
+loop-again c =
+    let pre = c .before .before .before .before .before .before .before .before .before .before .before .before .before .before .before .before .before .before .pre in
+    let terminals′ = c .before .before .before .before .before .before .before .before .before .before .before .before .before .before .before .terminals in
+    let wider = c .before .before .before .before .before .before .before .before .before .before .before .before .before .before .wider in
+    let loop = c .before .before .before .before .before .before .before .before .before .before .before .loop in
+    let loop-test = c .before .before .before .before .before .before .before .before .before .before .loop-test in
+    let symbol′ = c .before .before .before .before .before .before .before .before .before .symbol in
+    let wider3 = c .before .before .before .before .before .before .before .before .wider3 in
+    let if1 = c .before .before .before .before .before .before .before .if1 in
+    let wider4 = c .before .before .before .before .before .wider4 in
+    let occur = c .before .before .before .before .occur in
+    let x = symbol-is _ _ _ _ _ (pre .2) (wider3 .ensures ∙ symbol′ .ensures) in
+    let t = wider .ensures ∙ terminals′ .ensures in
+    let inside = tail-inside _ _ (loop-test .taken) (loop .inv .0) in
+    let number = tail-number _ _ _ _ _ t (if1 .left) x (symbol-high _ _ _ (pre .0) (pre .1) inside) in
+    let occurs = tail-occurs _ _ _ _ (loop-test .taken) (loop .inv .0) _ (pre .1) (loop .inv .2) x (omega (arith, wider .ensures, terminals′ .ensures)) in
+    let gathered = gather-more _ _ _ _ _ _ (loop .inv .1) _ (well-formed _ (pre .0) .limits .nonterminals-to) (loop-test .taken) (loop .inv .0) _ number (tail-split _ _ _ _ _ t (if1 .left) x) occurs (rw (wider4 .ensures) at (occur .ensures)) in
+    (omega arith, gathered, tail-null _ _ _ _ (loop-test .taken) (loop .inv .0) _ _ _ (loop .inv .2) x t (if1 .left) (c .before .has .ensures) (c .if2 .left), between-step _ _ _ _ _ _ _ (loop .inv .3) (occur .ensures))
 
 same-length-3 : tie.Need-same-length-3 Inv-loop μ-loop
 same-length-3 c = c .before .loop .inv .3 .long

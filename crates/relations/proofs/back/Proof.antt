@@ -33,9 +33,12 @@ sub-i : tie.Need-sub-i Inv-loop μ-loop
 sub-i c = search needs
 
 add-symbol : tie.Need-add-symbol Inv-loop μ-loop
-add-symbol c = let p = c .before .before .before .before .before .before .before .pre in
-    let f = right-fits (now (c .before .before .before .before .before .before .before .args .c)) (c .before .before .before .before .before .before .before .args .r) (p .0 .1 .formed) (p .2) in
-    let s = c .before .before .before .before .starting .ensures ∙ p .0 .1 .starts (c .before .before .before .before .before .before .before .args .r) (p .2) in
+add-symbol c =
+    let args = c .before .before .before .before .before .before .before .args in
+    let pre = c .before .before .before .before .before .before .before .pre in
+    let starting = c .before .before .before .before .starting in
+    let f = right-fits (now (args .c)) (args .r) (pre .0 .1 .formed) (pre .2) in
+    let s = starting .ensures ∙ pre .0 .1 .starts (args .r) (pre .2) in
     omega arith
 
 symbol-requires : tie.Need-symbol-requires Inv-loop μ-loop
@@ -51,9 +54,17 @@ loop-less : tie.Need-loop-less Inv-loop μ-loop
 loop-less c = search needs
 
 loop-again : tie.Need-loop-again Inv-loop μ-loop
-loop-again c = let p = c .before .before .before .before .before .before .before .before .before .before .pre in
-    let s = c .before .before .before .before .before .before .before .starting .ensures ∙ p .0 .1 .starts (c .before .before .before .before .before .before .before .before .before .before .args .r) (p .2) in
-    (omega arith, back-more _ _ _ _ (c .before .before .before .before .loop .i) _ _ _ (c .before .before .before .loop-test .taken) (c .before .before .before .before .loop .inv .0) (symbol-is _ _ _ _ _ s (c .before .wider .ensures ∙ c .before .before .symbol .ensures)) (c .before .before .before .before .loop .inv .1) (c .predecessors .ensures))
+loop-again c =
+    let args = c .before .before .before .before .before .before .before .before .before .before .args in
+    let pre = c .before .before .before .before .before .before .before .before .before .before .pre in
+    let starting = c .before .before .before .before .before .before .before .starting in
+    let loop = c .before .before .before .before .loop in
+    let loop-test = c .before .before .before .loop-test in
+    let symbol′ = c .before .before .symbol in
+    let wider = c .before .wider in
+    let predecessors = c .predecessors in
+    let s = starting .ensures ∙ pre .0 .1 .starts (args .r) (pre .2) in
+    (omega arith, back-more _ _ _ _ (loop .i) _ _ _ (omega arith) (loop .inv .0) (symbol-is _ _ _ _ _ s (wider .ensures ∙ symbol′ .ensures)) (loop .inv .1) (predecessors .ensures))
 
 returns : tie.Need-returns Inv-loop μ-loop
 returns c = back-end _ _ _ _ (c .before .loop .i) _ (c .loop-test .left) (c .before .loop .inv .1)

@@ -8,10 +8,14 @@ first-reads-requires : tie.Need-first-reads-requires
 first-reads-requires c κs = search needs
 
 returns : tie.Need-returns
-returns c = rw (c .before .if1 .taken) (λ k O. c .first-reads .ensures _ k O (rw (same-count _ _ k _ O (c .before .before .before .before .pre .ready)) at (c .before .before .before .before .pre .below)))
+returns c =
+    let pre = c .before .before .before .before .pre in
+    rw (c .before .if1 .taken) (λ k O. c .first-reads .ensures _ k O (rw (same-count _ _ k _ O (pre .ready)) at (pre .below)))
 
 first-includes-requires : tie.Need-first-includes-requires
-first-includes-requires c κs = record { nodes = c .before .before .before .pre .nodes; ready = c .before .before .before .pre .ready; below = c .before .before .before .pre .below }
+first-includes-requires c κs =
+    let pre = c .before .before .before .pre in
+    record { nodes = pre .nodes; ready = pre .ready; below = pre .below }
 
 returns-2 : tie.Need-returns-2
 returns-2 c = λ k O. firsts-kind _ (c .before .if1 .left) _ _ k _ _ (c .first-includes .ensures k O)

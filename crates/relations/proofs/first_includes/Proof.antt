@@ -19,7 +19,11 @@ nonterminal-requires : tie.Need-nonterminal-requires
 nonterminal-requires c κs = search needs
 
 sub-last : tie.Need-sub-last
-sub-last c = let p = c .before .before .before .before .before .pre in let l = p .ready .low _ (p .below) in omega (arith, l, c .before .wider .ensures, c .before .before .terminals .ensures, c .nonterminal .ensures)
+sub-last c =
+    let pre = c .before .before .before .before .before .pre in
+    let terminals′ = c .before .before .terminals in
+    let wider = c .before .wider in
+    let l = pre .ready .low _ (pre .below) in omega (arith, l, wider .ensures, terminals′ .ensures, c .nonterminal .ensures)
 
 last-requires : tie.Need-last-requires
 last-requires c κs = search needs
@@ -28,14 +32,28 @@ leaves-requires : tie.Need-leaves-requires
 leaves-requires c κs = search needs
 
 opened-requires : tie.Need-opened-requires
-opened-requires c κs = let p = c .before .before .before .before .before .before .before .pre in
-    let l = latest-of _ _ _ _ (p .ready) _ _ (p .below) (c .before .before .before .wider .ensures ∙ c .before .before .before .before .terminals .ensures) (c .before .last .ensures ∙ ap (λ (z : ℕ). lastOf (now (c .before .before .before .before .before .before .before .args .w)) (z - c .before .before .before .wider .result)) (c .before .before .nonterminal .ensures)) in
-    ((p .nodes, p .ready), rw (c .leaves .ensures) (p .ready .leaves _ (p .below)), l .most)
+opened-requires c κs =
+    let args = c .before .before .before .before .before .before .before .args in
+    let pre = c .before .before .before .before .before .before .before .pre in
+    let terminals′ = c .before .before .before .before .terminals in
+    let wider = c .before .before .before .wider in
+    let nonterminal = c .before .before .nonterminal in
+    let last = c .before .last in
+    let l = latest-of _ _ _ _ (pre .ready) _ _ (pre .below) (wider .ensures ∙ terminals′ .ensures) (last .ensures ∙ ap (λ (z : ℕ). lastOf (now (args .w)) (z - wider .result)) (nonterminal .ensures)) in
+    ((pre .nodes, pre .ready), rw (c .leaves .ensures) (pre .ready .leaves _ (pre .below)), l .most)
 
 returns : tie.Need-returns
-returns c = λ k O. includes-first _ _ k _ O _
-    (latest-of _ _ k _ O _ _ (rw (same-count _ _ k _ O (c .before .before .before .before .before .before .before .before .pre .ready)) at (c .before .before .before .before .before .before .before .before .pre .below)) (c .before .before .before .before .wider .ensures ∙ c .before .before .before .before .before .terminals .ensures) (c .before .before .last .ensures ∙ ap (λ (z : ℕ). lastOf (now (c .before .before .before .before .before .before .before .before .args .w)) (z - c .before .before .before .before .wider .result)) (c .before .before .before .nonterminal .ensures)))
-    (rw (c .before .leaves .ensures) at (c .opened .ensures))
+returns c =
+    let args = c .before .before .before .before .before .before .before .before .args in
+    let pre = c .before .before .before .before .before .before .before .before .pre in
+    let terminals′ = c .before .before .before .before .before .terminals in
+    let wider = c .before .before .before .before .wider in
+    let nonterminal = c .before .before .before .nonterminal in
+    let last = c .before .before .last in
+    let leaves = c .before .leaves in
+    λ k O. includes-first _ _ k _ O _
+    (latest-of _ _ k _ O _ _ (rw (same-count _ _ k _ O (pre .ready)) at (pre .below)) (wider .ensures ∙ terminals′ .ensures) (last .ensures ∙ ap (λ (z : ℕ). lastOf (now (args .w)) (z - wider .result)) (nonterminal .ensures)))
+    (rw (leaves .ensures) at (c .opened .ensures))
 
 pub first-includes-spec : {M : Type 1} → statement M
 first-includes-spec =

@@ -16,7 +16,11 @@ empty-requires : tie.Need-empty-requires
 empty-requires c κs = search needs
 
 returns : tie.Need-returns
-returns c = λ s k O h. reads-first s _ k _ O _ (c .before .first .ensures ∙ ap (firstOf (now (c .before .before .before .before .args .w))) (c .before .before .enters .ensures))
+returns c =
+    let args = c .before .before .before .before .args in
+    let enters = c .before .before .enters in
+    let first′ = c .before .first in
+    λ s k O h. reads-first s _ k _ O _ (first′ .ensures ∙ ap (firstOf (now (args .w))) (enters .ensures))
 
 pub first-reads-spec : {M : Type 1} → statement M
 first-reads-spec = tie.close (tie.spec enters-requires first-requires empty-requires returns)

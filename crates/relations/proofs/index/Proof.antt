@@ -29,7 +29,12 @@ nonterminal-requires : tie.Need-nonterminal-requires Inv-loop μ-loop
 nonterminal-requires c κs = search needs
 
 returns : tie.Need-returns Inv-loop μ-loop
-returns c = index-here _ (c .before .before .before .before .before .before .before .args .p) (c .before .before .before .before .before .before .before .args .x) _ (c .before .before .before .before .before .before .before .pre) (c .before .before .before .loop .inv .0) (omega arith) (sym (c .before .nonterminal .ensures) ∙ c .if1 .taken)
+returns c =
+    let args = c .before .before .before .before .before .before .before .args in
+    let pre = c .before .before .before .before .before .before .before .pre in
+    let loop = c .before .before .before .loop in
+    let nonterminal = c .before .nonterminal in
+    index-here _ (args .p) (args .x) _ (pre) (loop .inv .0) (omega arith) (sym (nonterminal .ensures) ∙ c .if1 .taken)
 
 add-i : tie.Need-add-i Inv-loop μ-loop
 add-i c = search needs
@@ -41,7 +46,10 @@ loop-again : tie.Need-loop-again Inv-loop μ-loop
 loop-again c = (omega arith, gap-more _ _ _ (λ e. c .if1 .left (c .before .nonterminal .ensures ∙ e)) (c .before .before .before .loop .inv .1))
 
 returns-2 : tie.Need-returns-2 Inv-loop μ-loop
-returns-2 c = index-none _ (c .before .before .before .before .before .args .p) (c .before .before .before .before .before .args .x) (c .before .loop .i) (omega arith) (c .before .loop .inv .1)
+returns-2 c =
+    let args = c .before .before .before .before .before .args in
+    let loop = c .before .loop in
+    index-none _ (args .p) (args .x) (loop .i) (omega arith) (loop .inv .1)
 
 pub index-spec : {M : Type 1} → statement M
 index-spec =

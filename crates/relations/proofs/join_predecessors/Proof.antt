@@ -60,7 +60,14 @@ loop-again : tie.Need-loop-again Inv-loop μ-loop
 loop-again c = part-more _ _ _ _ _ (c .before .before .loop .inv) _ (c .before .loop-test .taken) (c .pair .ensures)
 
 returns-2 : tie.Need-returns-2 Inv-loop μ-loop
-returns-2 c = part-end _ _ _ _ _ (c .before .before .before .before .before .before .args .q) (c .before .before .before .before .before .before .args .x) (c .before .loop .inv) (c .loop-test .left) (ap (λ (z : ℕ). 6657 + 8 * z) (c .before .before .wide32 .ensures)) (c .before .before .before .before .before .before .pre) (sym (c .before .before .before .before .entering .ensures) ∙ c .before .before .before .if1 .left)
+returns-2 c =
+    let args = c .before .before .before .before .before .before .args in
+    let pre = c .before .before .before .before .before .before .pre in
+    let entering = c .before .before .before .before .entering in
+    let if1 = c .before .before .before .if1 in
+    let wide32 = c .before .before .wide32 in
+    let loop = c .before .loop in
+    part-end _ _ _ _ _ (args .q) (args .x) (loop .inv) (c .loop-test .left) (ap (λ (z : ℕ). 6657 + 8 * z) (wide32 .ensures)) (pre) (sym (entering .ensures) ∙ if1 .left)
 
 pub join-predecessors-spec : {M : Type 1} → statement M
 join-predecessors-spec =

@@ -35,9 +35,12 @@ production-requires : tie.Need-production-requires Inv-loop μ-loop
 production-requires c κs = search needs
 
 cast-left : tie.Need-cast-left Inv-loop μ-loop
-cast-left c = let p = c .before .before .before .before .before .before .before .before .before .before .pre in
-    let o = occurs-at _ _ (p .nodes) (c .before .before .before .before .before .loop .at) (p .ready) (c .before .before .before .before .loop-test .taken) (c .before .before .before .before .before .loop .inv .stands .within) in
-    let m = well-formed _ (p .ready .formed) .limits .productions-to in
+cast-left c =
+    let pre = c .before .before .before .before .before .before .before .before .before .before .pre in
+    let loop = c .before .before .before .before .before .loop in
+    let loop-test = c .before .before .before .before .loop-test in
+    let o = occurs-at _ _ (pre .nodes) (loop .at) (pre .ready) (loop-test .taken) (loop .inv .stands .within) in
+    let m = well-formed _ (pre .ready .formed) .limits .productions-to in
     omega (arith, o .production, m, c .production .ensures)
 
 left-requires : tie.Need-left-requires Inv-loop μ-loop
@@ -50,13 +53,43 @@ index-requires : tie.Need-index-requires Inv-loop μ-loop
 index-requires c κs = search needs
 
 returns : tie.Need-returns Inv-loop μ-loop
-returns c = λ k O. reached-found _ _ _ _ _ _ _ (c .before .before .before .before .before .before .before .before .before .loop .inv) _ (c .before .before .before .before .before .before .before .lowest .ensures) (c .before .before .before .before .before .before .if1 .taken) _ (c .before .before .before .before .before .without .ensures) _ (λ k O. rw (c .before .before .wider .ensures ∙ c .before .before .before .left .ensures ∙ ap (leftOf (now (c .before .before .before .before .before .before .before .before .before .before .before .before .before .before .args .c))) (c .before .before .before .before .production .ensures)) at (c .before .index .ensures _ k O)) k O (omega arith) (c .if2 .taken) (c .before .before .before .before .before .before .before .before .before .before .before .before .before .before .args .cursor) refl refl
+returns c =
+    let args = c .before .before .before .before .before .before .before .before .before .before .before .before .before .before .args in
+    let loop = c .before .before .before .before .before .before .before .before .before .loop in
+    let lowest = c .before .before .before .before .before .before .before .lowest in
+    let if1 = c .before .before .before .before .before .before .if1 in
+    let without = c .before .before .before .before .before .without in
+    let production = c .before .before .before .before .production in
+    let left′ = c .before .before .before .left in
+    let wider = c .before .before .wider in
+    let index′ = c .before .index in
+    λ k O. reached-found _ _ _ _ _ _ _ (loop .inv) _ (lowest .ensures) (if1 .taken) _ (without .ensures) _ (λ k O. rw (wider .ensures ∙ left′ .ensures ∙ ap (leftOf (now (args .c))) (production .ensures)) at (index′ .ensures _ k O)) k O (omega arith) (c .if2 .taken) (args .cursor) refl refl
 
 loop-less : tie.Need-loop-less Inv-loop μ-loop
-loop-less c = fewer _ _ _ _ _ _ _ (c .before .before .before .before .before .before .before .before .before .loop .inv) _ (c .before .before .before .before .before .before .before .lowest .ensures) (c .before .before .before .before .before .before .if1 .taken) _ (c .before .before .before .before .before .without .ensures) _ (λ k O. rw (c .before .before .wider .ensures ∙ c .before .before .before .left .ensures ∙ ap (leftOf (now (c .before .before .before .before .before .before .before .before .before .before .before .before .before .before .args .c))) (c .before .before .before .before .production .ensures)) at (c .before .index .ensures _ k O))
+loop-less c =
+    let args = c .before .before .before .before .before .before .before .before .before .before .before .before .before .before .args in
+    let loop = c .before .before .before .before .before .before .before .before .before .loop in
+    let lowest = c .before .before .before .before .before .before .before .lowest in
+    let if1 = c .before .before .before .before .before .before .if1 in
+    let without = c .before .before .before .before .before .without in
+    let production = c .before .before .before .before .production in
+    let left′ = c .before .before .before .left in
+    let wider = c .before .before .wider in
+    let index′ = c .before .index in
+    fewer _ _ _ _ _ _ _ (loop .inv) _ (lowest .ensures) (if1 .taken) _ (without .ensures) _ (λ k O. rw (wider .ensures ∙ left′ .ensures ∙ ap (leftOf (now (args .c))) (production .ensures)) at (index′ .ensures _ k O))
 
 loop-again : tie.Need-loop-again Inv-loop μ-loop
-loop-again c = reached-skip _ _ _ _ _ _ _ (c .before .before .before .before .before .before .before .before .before .loop .inv) _ (c .before .before .before .before .before .before .before .lowest .ensures) (c .before .before .before .before .before .before .if1 .taken) _ (c .before .before .before .before .before .without .ensures) _ (λ k O. rw (c .before .before .wider .ensures ∙ c .before .before .before .left .ensures ∙ ap (leftOf (now (c .before .before .before .before .before .before .before .before .before .before .before .before .before .before .args .c))) (c .before .before .before .before .production .ensures)) at (c .before .index .ensures _ k O)) (c .if2 .left)
+loop-again c =
+    let args = c .before .before .before .before .before .before .before .before .before .before .before .before .before .before .args in
+    let loop = c .before .before .before .before .before .before .before .before .before .loop in
+    let lowest = c .before .before .before .before .before .before .before .lowest in
+    let if1 = c .before .before .before .before .before .before .if1 in
+    let without = c .before .before .before .before .before .without in
+    let production = c .before .before .before .before .production in
+    let left′ = c .before .before .before .left in
+    let wider = c .before .before .wider in
+    let index′ = c .before .index in
+    reached-skip _ _ _ _ _ _ _ (loop .inv) _ (lowest .ensures) (if1 .taken) _ (without .ensures) _ (λ k O. rw (wider .ensures ∙ left′ .ensures ∙ ap (leftOf (now (args .c))) (production .ensures)) at (index′ .ensures _ k O)) (c .if2 .left)
 
 sub-link : tie.Need-sub-link Inv-loop μ-loop
 sub-link c = search needs
@@ -65,14 +98,32 @@ link-requires : tie.Need-link-requires Inv-loop μ-loop
 link-requires c κs = search needs
 
 opened-requires : tie.Need-opened-requires Inv-loop μ-loop
-opened-requires c κs = let p = c .before .before .before .before .before .before .before .before .before .pre in
-    ((p .nodes, p .ready), rw (c .before .before .before .before .before .before .leaves .ensures) (p .ready .leaves _ (p .below)), rw (c .link .ensures) (link-below _ _ (p .nodes) (c .before .before .before .before .loop .at) (p .ready) (c .before .before .before .loop-test .taken) (c .before .before .before .before .loop .inv .stands .within)))
+opened-requires c κs =
+    let pre = c .before .before .before .before .before .before .before .before .before .pre in
+    let leaves = c .before .before .before .before .before .before .leaves in
+    let loop = c .before .before .before .before .loop in
+    let loop-test = c .before .before .before .loop-test in
+    ((pre .nodes, pre .ready), rw (leaves .ensures) (pre .ready .leaves _ (pre .below)), rw (c .link .ensures) (link-below _ _ (pre .nodes) (loop .at) (pre .ready) (loop-test .taken) (loop .inv .stands .within)))
 
 loop-less-2 : tie.Need-loop-less-2 Inv-loop μ-loop
-loop-less-2 c = rw (c .before .link .ensures) (reached-link _ _ _ _ _ _ _ (c .before .before .before .before .before .loop .inv) (c .before .before .before .before .before .before .before .before .before .before .pre .nodes) _ _ (c .before .before .before .before .before .before .before .before .before .before .pre .ready) (omega arith) (c .before .before .before .lowest .ensures) (c .before .before .if1 .left) (rw (c .before .before .before .before .before .before .before .leaves .ensures, c .before .link .ensures) at (c .opened .ensures)) .0)
+loop-less-2 c =
+    let pre = c .before .before .before .before .before .before .before .before .before .before .pre in
+    let leaves = c .before .before .before .before .before .before .before .leaves in
+    let loop = c .before .before .before .before .before .loop in
+    let lowest = c .before .before .before .lowest in
+    let if1 = c .before .before .if1 in
+    let link = c .before .link in
+    rw (link .ensures) (reached-link _ _ _ _ _ _ _ (loop .inv) (pre .nodes) _ _ (pre .ready) (omega arith) (lowest .ensures) (if1 .left) (rw (leaves .ensures, link .ensures) at (c .opened .ensures)) .0)
 
 loop-again-2 : tie.Need-loop-again-2 Inv-loop μ-loop
-loop-again-2 c = rw (c .before .link .ensures) (reached-link _ _ _ _ _ _ _ (c .before .before .before .before .before .loop .inv) (c .before .before .before .before .before .before .before .before .before .before .pre .nodes) _ _ (c .before .before .before .before .before .before .before .before .before .before .pre .ready) (omega arith) (c .before .before .before .lowest .ensures) (c .before .before .if1 .left) (rw (c .before .before .before .before .before .before .before .leaves .ensures, c .before .link .ensures) at (c .opened .ensures)) .1)
+loop-again-2 c =
+    let pre = c .before .before .before .before .before .before .before .before .before .before .pre in
+    let leaves = c .before .before .before .before .before .before .before .leaves in
+    let loop = c .before .before .before .before .before .loop in
+    let lowest = c .before .before .before .lowest in
+    let if1 = c .before .before .if1 in
+    let link = c .before .link in
+    rw (link .ensures) (reached-link _ _ _ _ _ _ _ (loop .inv) (pre .nodes) _ _ (pre .ready) (omega arith) (lowest .ensures) (if1 .left) (rw (leaves .ensures, link .ensures) at (c .opened .ensures)) .1)
 
 returns-2 : tie.Need-returns-2 Inv-loop μ-loop
 returns-2 c = λ k O. record {

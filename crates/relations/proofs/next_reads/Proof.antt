@@ -40,10 +40,20 @@ add-t15 : tie.Need-add-t15 Inv-loop μ-loop
 add-t15 c = search needs
 
 returns : tie.Need-returns Inv-loop μ-loop
-returns c = λ k O.
-    reads-found _ _ k _ O (c .before .before .before .before .before .before .before .before .before .before .before .args .cursor) _ (c .before .before .before .before .loop .inv .1) _ (rw (same-count _ _ k _ O (c .before .before .before .before .before .before .before .before .before .before .before .pre .ready)) at (c .before .before .before .before .before .before .before .before .before .before .before .pre .below)) (rw (same-count _ _ k _ O (c .before .before .before .before .before .before .before .before .before .before .before .pre .ready)) at (c .before .before .before .before .before .before .before .before .before .before .before .pre .sound)) (c .before .before .before .before .loop .inv .0)
-    (rw (← c .before .before .before .before .before .before .before .enters .ensures) (rw (← c .before .before .before .before .before .before .first .ensures) (c .before .before .before .loop-test .taken)))
-    (null-at _ _ _ _ _ (c .before .before .before .before .before .before .before .before .nullables .ensures) (c .before .before .nonterminal .ensures) (c .before .nullable .ensures) .yes (c .if1 .taken))
+returns c =
+    let args = c .before .before .before .before .before .before .before .before .before .before .before .args in
+    let pre = c .before .before .before .before .before .before .before .before .before .before .before .pre in
+    let nullables = c .before .before .before .before .before .before .before .before .nullables in
+    let enters = c .before .before .before .before .before .before .before .enters in
+    let first′ = c .before .before .before .before .before .before .first in
+    let loop = c .before .before .before .before .loop in
+    let loop-test = c .before .before .before .loop-test in
+    let nonterminal = c .before .before .nonterminal in
+    let nullable = c .before .nullable in
+    λ k O.
+    reads-found _ _ k _ O (args .cursor) _ (loop .inv .1) _ (rw (same-count _ _ k _ O (pre .ready)) at (pre .below)) (rw (same-count _ _ k _ O (pre .ready)) at (pre .sound)) (loop .inv .0)
+    (rw (← enters .ensures) (rw (← first′ .ensures) (loop-test .taken)))
+    (null-at _ _ _ _ _ (nullables .ensures) (nonterminal .ensures) (nullable .ensures) .yes (c .if1 .taken))
 
 add-i : tie.Need-add-i Inv-loop μ-loop
 add-i c = search needs
@@ -52,10 +62,20 @@ loop-less : tie.Need-loop-less Inv-loop μ-loop
 loop-less c = search needs
 
 loop-again : tie.Need-loop-again Inv-loop μ-loop
-loop-again c = (omega arith, gap-more _ _ _ (λ n. absurd (true≢false (sym (null-at _ _ _ _ _ (c .before .before .before .before .before .before .before .before .nullables .ensures) (c .before .before .nonterminal .ensures) (c .before .nullable .ensures) .so n) ∙ c .if1 .left))) (c .before .before .before .before .loop .inv .1))
+loop-again c =
+    let nullables = c .before .before .before .before .before .before .before .before .nullables in
+    let loop = c .before .before .before .before .loop in
+    let nonterminal = c .before .before .nonterminal in
+    let nullable = c .before .nullable in
+    (omega arith, gap-more _ _ _ (λ n. absurd (true≢false (sym (null-at _ _ _ _ _ (nullables .ensures) (nonterminal .ensures) (nullable .ensures) .so n) ∙ c .if1 .left))) (loop .inv .1))
 
 returns-2 : tie.Need-returns-2 Inv-loop μ-loop
-returns-2 c = λ k O. reads-none _ _ k _ O (c .before .before .before .before .before .before .before .before .args .cursor) (c .before .loop .i) (c .before .loop .inv .1) _ (rw (← c .before .before .before .before .enters .ensures) (rw (← c .before .before .before .first .ensures) (c .loop-test .left))) refl
+returns-2 c =
+    let args = c .before .before .before .before .before .before .before .before .args in
+    let enters = c .before .before .before .before .enters in
+    let first′ = c .before .before .before .first in
+    let loop = c .before .loop in
+    λ k O. reads-none _ _ k _ O (args .cursor) (loop .i) (loop .inv .1) _ (rw (← enters .ensures) (rw (← first′ .ensures) (c .loop-test .left))) refl
 
 pub next-reads-spec : {M : Type 1} → statement M
 next-reads-spec =

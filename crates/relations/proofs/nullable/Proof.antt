@@ -18,7 +18,10 @@ has-requires : tie.Need-has-requires
 has-requires c κs = search needs
 
 returns-2 : tie.Need-returns-2
-returns-2 c = null-tells _ _ _ _ _ (c .before .before .wider .ensures ∙ c .before .before .before .terminals .ensures) (c .before .if1 .left) (c .has .ensures)
+returns-2 c =
+    let terminals′ = c .before .before .before .terminals in
+    let wider = c .before .before .wider in
+    null-tells _ _ _ _ _ (wider .ensures ∙ terminals′ .ensures) (c .before .if1 .left) (c .has .ensures)
 
 pub nullable-spec : {M : Type 1} → statement M
 nullable-spec =

@@ -32,10 +32,19 @@ lowest-requires-2 : tie.Need-lowest-requires-2 Inv-loop μ-loop
 lowest-requires-2 c κs = search needs
 
 loop-less : tie.Need-loop-less Inv-loop μ-loop
-loop-less c = out-less _ _ _ (c .before .before .before .before .loop .inv .0 .here (c .before .before .before .loop-test .taken)) (c .before .without .ensures) 256 (c .before .before .before .loop-test .taken)
+loop-less c =
+    let loop = c .before .before .before .before .loop in
+    let loop-test = c .before .before .before .loop-test in
+    let without = c .before .without in
+    out-less _ _ _ (loop .inv .0 .here (loop-test .taken)) (without .ensures) 256 (loop-test .taken)
 
 loop-again : tie.Need-loop-again Inv-loop μ-loop
-loop-again c = (c .lowest2 .ensures, walk-more _ _ _ _ _ (c .before .before .before .before .loop .inv .1) _ (c .before .before .before .before .loop .inv .0) (c .before .before .before .loop-test .taken) _ _ (c .before .before .join-predecessors .ensures) (c .before .without .ensures))
+loop-again c =
+    let loop = c .before .before .before .before .loop in
+    let loop-test = c .before .before .before .loop-test in
+    let join-predecessors = c .before .before .join-predecessors in
+    let without = c .before .without in
+    (c .lowest2 .ensures, walk-more _ _ _ _ _ (loop .inv .1) _ (loop .inv .0) (loop-test .taken) _ _ (join-predecessors .ensures) (without .ensures))
 
 returns : tie.Need-returns Inv-loop μ-loop
 returns c = walk-end _ _ _ _ _ (c .before .loop .inv .1) _ (c .before .loop .inv .0) (c .loop-test .left)

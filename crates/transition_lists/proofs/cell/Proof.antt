@@ -1,3 +1,4 @@
+use native.Mathlib.Omega.{arith}
 use Rattle.transition_lists.specs.Stores.Celled.{vacant, terminal, many, listed}
 use borrow.Author.Needs.{needs}
 use Rattle.transition_lists.proofs.cell.Statement.{statement}
@@ -25,7 +26,12 @@ same-length-2 : tie.Need-same-length-2
 same-length-2 c = search needs
 
 returns-3 : tie.Need-returns-3
-returns-3 c = listed _ _ (c .before .before .before .before .before .before .before .before .before .before .if1 .left) (c .before .before .before .before .before .if2 .left) (c .before .before .before .before .if3 .taken) (c .before .before .before .before .before .before .before .before .note .ensures) (c .before .before .place .ensures)
+returns-3 c =
+    let if1 = c .before .before .before .before .before .before .before .before .before .before .if1 in
+    let note = c .before .before .before .before .before .before .before .before .note in
+    let if2 = c .before .before .before .before .before .if2 in
+    let place = c .before .before .place in
+    listed _ _ (if1 .left) (if2 .left) (omega arith) (note .ensures) (place .ensures)
 
 add-result-2 : tie.Need-add-result-2
 add-result-2 c = search needs
@@ -34,7 +40,10 @@ same-length-3 : tie.Need-same-length-3
 same-length-3 c = search needs
 
 returns-4 : tie.Need-returns-4
-returns-4 c = many _ (c .before .before .before .before .before .before .if1 .left) (c .before .if2 .left) (c .if3 .left) (c .before .before .before .before .note .ensures)
+returns-4 c =
+    let if1 = c .before .before .before .before .before .before .if1 in
+    let note = c .before .before .before .before .note in
+    many _ (if1 .left) (c .before .if2 .left) (c .if3 .left) (note .ensures)
 
 pub cell-spec : {M : Type 1} → statement M
 cell-spec =

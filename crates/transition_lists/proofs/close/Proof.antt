@@ -39,7 +39,11 @@ loop-less : tie.Need-loop-less Inv-loop μ-loop
 loop-less c = search needs
 
 loop-again : tie.Need-loop-again Inv-loop μ-loop
-loop-again c = (omega arith, omega arith, simp length-set (c .before .before .loop .inv .2), λ s f N t P. store-none s _ f N t _ _ _ _ _ (c .wide32 .ensures) (c .before .before .loop .inv .0) (c .before .loop-test .taken) (omega (arith, c .before .before .loop .inv .2, c .before .before .before .before .pre .1)) (c .before .before .loop .inv .3 s f N t P))
+loop-again c =
+    let pre = c .before .before .before .before .pre in
+    let loop = c .before .before .loop in
+    let loop-test = c .before .loop-test in
+    (omega arith, omega arith, simp length-set (loop .inv .2), λ s f N t P. store-none s _ f N t _ _ _ _ _ (c .wide32 .ensures) (loop .inv .0) (loop-test .taken) (omega (arith, loop .inv .2, pre .1)) (loop .inv .3 s f N t P))
 
 same-length : tie.Need-same-length Inv-loop μ-loop
 same-length c = c .before .loop .inv .2

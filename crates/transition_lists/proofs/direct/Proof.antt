@@ -18,7 +18,9 @@ abbrev μ-loop : tie.MeasureT-loop
 μ-loop c t w z₀ n k i₀ z i = k - i
 
 words-requires : tie.Need-words-requires Inv-loop μ-loop
-words-requires c κs = (c .before .before .before .before .before .pre .2 .1 .ordered .formed, c .before .before .before .before .before .pre .0 .most, c .before .before .before .before .before .pre .1)
+words-requires c κs =
+    let pre = c .before .before .before .before .before .pre in
+    (pre .2 .1 .ordered .formed, pre .0 .most, pre .1)
 
 loop-holds : tie.Need-loop-holds Inv-loop μ-loop
 loop-holds c = (omega arith, refl, λ a C. C)
@@ -36,19 +38,42 @@ wide32-requires-2 : tie.Need-wide32-requires-2 Inv-loop μ-loop
 wide32-requires-2 c κs = search needs
 
 mul-z : tie.Need-mul-z Inv-loop μ-loop
-mul-z c = let b = enters-below _ _ _ _ _ _ (c .before .before .before .before .before .before .before .before .before .before .before .before .before .pre .0) (c .before .before .before .before .before .before .before .before .before .before .before .before .before .pre .2 .1) (c .before .before .before .before .loop .i) (c .before .before .before .loop-test .taken) in omega (arith, c .before .before .before .before .before .before .before .before .before .before .before .before .before .pre .0 .most, c .before .before .enters .ensures, c .before .wide32 .ensures)
+mul-z c =
+    let pre = c .before .before .before .before .before .before .before .before .before .before .before .before .before .pre in
+    let loop = c .before .before .before .before .loop in
+    let loop-test = c .before .before .before .loop-test in
+    let enters = c .before .before .enters in
+    let wide32 = c .before .wide32 in
+    let b = enters-below _ _ _ _ _ _ (pre .0) (pre .2 .1) (loop .i) (loop-test .taken) in omega (arith, pre .0 .most, enters .ensures, wide32 .ensures)
 
 slice-read-z : tie.Need-slice-read-z Inv-loop μ-loop
-slice-read-z c = let b = enters-below _ _ _ _ _ _ (c .before .before .before .before .before .before .before .before .before .before .before .before .before .before .pre .0) (c .before .before .before .before .before .before .before .before .before .before .before .before .before .before .pre .2 .1) (c .before .before .before .before .before .loop .i) (c .before .before .before .before .loop-test .taken) in omega (arith, c .before .before .before .before .before .before .before .before .before .before .before .before .before .before .pre .0 .most, c .before .before .before .enters .ensures, c .before .before .wide32 .ensures, c .before .before .before .before .before .loop .inv .1, c .before .before .before .before .before .before .before .before .words .ensures (now (c .before .before .before .before .before .before .before .before .before .before .before .before .before .before .args .w)) .long, c .before .before .before .before .before .before .before .before .before .before .before .before .before .before .pre .1)
+slice-read-z c =
+    let args = c .before .before .before .before .before .before .before .before .before .before .before .before .before .before .args in
+    let pre = c .before .before .before .before .before .before .before .before .before .before .before .before .before .before .pre in
+    let words = c .before .before .before .before .before .before .before .before .words in
+    let loop = c .before .before .before .before .before .loop in
+    let loop-test = c .before .before .before .before .loop-test in
+    let enters = c .before .before .before .enters in
+    let wide32 = c .before .before .wide32 in
+    let b = enters-below _ _ _ _ _ _ (pre .0) (pre .2 .1) (loop .i) (loop-test .taken) in omega (arith, pre .0 .most, enters .ensures, wide32 .ensures, loop .inv .1, words .ensures (now (args .w)) .long, pre .1)
 
 ending-requires : tie.Need-ending-requires Inv-loop μ-loop
 ending-requires c κs = search needs
 
 mul-z-2 : tie.Need-mul-z-2 Inv-loop μ-loop
-mul-z-2 c = omega (arith, c .before .before .before .before .before .before .before .before .before .before .before .before .before .before .before .pre .2 .1 .ordered .few, c .before .before .wide322 .ensures)
+mul-z-2 c =
+    let pre = c .before .before .before .before .before .before .before .before .before .before .before .before .before .before .before .pre in
+    let wide322 = c .before .before .wide322 in
+    omega (arith, pre .2 .1 .ordered .few, wide322 .ensures)
 
 slice-write-z : tie.Need-slice-write-z Inv-loop μ-loop
-slice-write-z c = omega (arith, c .before .before .before .before .before .before .before .before .before .before .before .before .before .before .before .pre .2 .1 .ordered .few, c .before .before .wide322 .ensures, c .before .before .before .before .before .before .loop .inv .1, c .before .before .before .before .before .before .before .before .before .words .ensures (now (c .before .before .before .before .before .before .before .before .before .before .before .before .before .before .before .args .w)) .long, c .before .before .before .before .before .before .before .before .before .before .before .before .before .before .before .pre .1)
+slice-write-z c =
+    let args = c .before .before .before .before .before .before .before .before .before .before .before .before .before .before .before .args in
+    let pre = c .before .before .before .before .before .before .before .before .before .before .before .before .before .before .before .pre in
+    let words = c .before .before .before .before .before .before .before .before .before .words in
+    let loop = c .before .before .before .before .before .before .loop in
+    let wide322 = c .before .before .wide322 in
+    omega (arith, pre .2 .1 .ordered .few, wide322 .ensures, loop .inv .1, words .ensures (now (args .w)) .long, pre .1)
 
 add-i : tie.Need-add-i Inv-loop μ-loop
 add-i c = search needs
@@ -57,13 +82,30 @@ loop-less : tie.Need-loop-less Inv-loop μ-loop
 loop-less c = search needs
 
 loop-again : tie.Need-loop-again Inv-loop μ-loop
-loop-again c = (omega arith, simp length-set (c .before .before .before .before .before .before .loop .inv .1), λ a C. copied-direct _ _ _ _ _ _ _ _ _ _ (c .before .before .wide322 .ensures) (c .before .before .before .wide32 .ensures ∙ c .before .before .before .before .enters .ensures) (enters-below _ _ _ _ _ _ (c .before .before .before .before .before .before .before .before .before .before .before .before .before .before .before .pre .0) (c .before .before .before .before .before .before .before .before .before .before .before .before .before .before .before .pre .2 .1) (c .before .before .before .before .before .before .loop .i) (c .before .before .before .before .before .loop-test .taken)) (omega (arith, c .before .before .before .before .before .before .before .before .before .before .before .before .before .before .before .pre .2 .1 .ordered .few)) (omega (arith, c .before .before .before .before .before .before .loop .inv .1, c .before .before .before .before .before .before .before .before .before .words .ensures (now (c .before .before .before .before .before .before .before .before .before .before .before .before .before .before .before .args .w)) .long, c .before .before .before .before .before .before .before .before .before .before .before .before .before .before .before .pre .1)) (c .ending .ensures) (c .before .before .before .before .before .before .loop .inv .2 a C))
+loop-again c =
+    let args = c .before .before .before .before .before .before .before .before .before .before .before .before .before .before .before .args in
+    let pre = c .before .before .before .before .before .before .before .before .before .before .before .before .before .before .before .pre in
+    let words = c .before .before .before .before .before .before .before .before .before .words in
+    let loop = c .before .before .before .before .before .before .loop in
+    let loop-test = c .before .before .before .before .before .loop-test in
+    let enters = c .before .before .before .before .enters in
+    let wide32 = c .before .before .before .wide32 in
+    let wide322 = c .before .before .wide322 in
+    (omega arith, simp length-set (loop .inv .1), λ a C. copied-direct _ _ _ _ _ _ _ _ _ _ (wide322 .ensures) (wide32 .ensures ∙ enters .ensures) (enters-below _ _ _ _ _ _ (pre .0) (pre .2 .1) (loop .i) (loop-test .taken)) (omega (arith, pre .2 .1 .ordered .few)) (omega (arith, loop .inv .1, words .ensures (now (args .w)) .long, pre .1)) (c .ending .ensures) (loop .inv .2 a C))
 
 same-length : tie.Need-same-length Inv-loop μ-loop
-same-length c = c .before .loop .inv .1 ∙ c .before .before .before .before .words .ensures (now (c .before .before .before .before .before .before .before .before .before .before .args .w)) .long
+same-length c =
+    let args = c .before .before .before .before .before .before .before .before .before .before .args in
+    let words = c .before .before .before .before .words in
+    let loop = c .before .loop in
+    loop .inv .1 ∙ words .ensures (now (args .w)) .long
 
 returns : tie.Need-returns Inv-loop μ-loop
-returns c = copied-end _ _ _ _ _ _ _ _ (c .before .before .before .before .before .before .before .before .before .before .pre .0 .most) (c .before .loop .inv .0) (c .loop-test .left) (c .before .loop .inv .2 _ (c .before .before .before .before .words .ensures _))
+returns c =
+    let pre = c .before .before .before .before .before .before .before .before .before .before .pre in
+    let words = c .before .before .before .before .words in
+    let loop = c .before .loop in
+    copied-end _ _ _ _ _ _ _ _ (pre .0 .most) (loop .inv .0) (c .loop-test .left) (loop .inv .2 _ (words .ensures _))
 
 pub direct-spec : {M : Type 1} → statement M
 direct-spec =

@@ -20,10 +20,20 @@ wider-requires : tie.Need-wider-requires
 wider-requires c κs = search needs
 
 returns-2 : tie.Need-returns-2
-returns-2 c = ending-none _ _ _ (λ z. c .if2 .taken (c .before .before .before .nonterminal .ensures ∙ z .start ∙ sym (c .before .wider .ensures ∙ c .before .before .terminals .ensures)))
+returns-2 c =
+    let nonterminal = c .before .before .before .nonterminal in
+    let terminals′ = c .before .before .terminals in
+    let wider = c .before .wider in
+    ending-none _ _ _ (λ z. c .if2 .taken (nonterminal .ensures ∙ z .start ∙ sym (wider .ensures ∙ terminals′ .ensures)))
 
 returns-3 : tie.Need-returns-3
-returns-3 c = ending-one _ _ _ (record { state = sym (c .before .before .before .before .before .leaves .ensures) ∙ c .before .before .before .before .if1 .left; start = sym (c .before .before .before .nonterminal .ensures) ∙ c .if2 .left ∙ c .before .wider .ensures ∙ c .before .before .terminals .ensures })
+returns-3 c =
+    let leaves = c .before .before .before .before .before .leaves in
+    let if1 = c .before .before .before .before .if1 in
+    let nonterminal = c .before .before .before .nonterminal in
+    let terminals′ = c .before .before .terminals in
+    let wider = c .before .wider in
+    ending-one _ _ _ (record { state = sym (leaves .ensures) ∙ if1 .left; start = sym (nonterminal .ensures) ∙ c .if2 .left ∙ wider .ensures ∙ terminals′ .ensures })
 
 pub ending-spec : {M : Type 1} → statement M
 ending-spec =

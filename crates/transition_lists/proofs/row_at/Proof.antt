@@ -36,13 +36,36 @@ wide32-requires : tie.Need-wide32-requires
 wide32-requires c κs = search needs
 
 mul-result-2 : tie.Need-mul-result-2
-mul-result-2 c = let b = row-fits _ (c .before .before .before .before .before .before .before .before .args .q) _ _ _ (c .before .before .before .before .before .before .before .before .pre .0) (c .before .before .before .before .before .before .before .before .pre .1) (c .before .before .before .before .before .wide .ensures ∙ c .before .before .before .before .before .before .terminals .ensures) (c .before .before .before .wide2 .ensures ∙ c .before .before .before .before .nonterminals .ensures) (c .wide32 .ensures) in omega arith
+mul-result-2 c =
+    let args = c .before .before .before .before .before .before .before .before .args in
+    let pre = c .before .before .before .before .before .before .before .before .pre in
+    let terminals′ = c .before .before .before .before .before .before .terminals in
+    let wide = c .before .before .before .before .before .wide in
+    let nonterminals′ = c .before .before .before .before .nonterminals in
+    let wide2 = c .before .before .before .wide2 in
+    let b = row-fits _ (args .q) _ _ _ (pre .0) (pre .1) (wide .ensures ∙ terminals′ .ensures) (wide2 .ensures ∙ nonterminals′ .ensures) (c .wide32 .ensures) in omega arith
 
 add-result-2 : tie.Need-add-result-2
-add-result-2 c = let b = row-fits _ (c .before .before .before .before .before .before .before .before .args .q) _ _ _ (c .before .before .before .before .before .before .before .before .pre .0) (c .before .before .before .before .before .before .before .before .pre .1) (c .before .before .before .before .before .wide .ensures ∙ c .before .before .before .before .before .before .terminals .ensures) (c .before .before .before .wide2 .ensures ∙ c .before .before .before .before .nonterminals .ensures) (c .wide32 .ensures) in omega arith
+add-result-2 c =
+    let args = c .before .before .before .before .before .before .before .before .args in
+    let pre = c .before .before .before .before .before .before .before .before .pre in
+    let terminals′ = c .before .before .before .before .before .before .terminals in
+    let wide = c .before .before .before .before .before .wide in
+    let nonterminals′ = c .before .before .before .before .nonterminals in
+    let wide2 = c .before .before .before .wide2 in
+    let b = row-fits _ (args .q) _ _ _ (pre .0) (pre .1) (wide .ensures ∙ terminals′ .ensures) (wide2 .ensures ∙ nonterminals′ .ensures) (c .wide32 .ensures) in omega arith
 
 returns : tie.Need-returns
-returns c = row-place _ (c .before .before .before .before .before .before .before .before .args .q) _ _ _ _ (c .before .before .before .before .before .before .before .before .pre .0) (c .before .before .before .before .before .before .before .before .pre .1) (c .before .before .before .before .before .wide .ensures ∙ c .before .before .before .before .before .before .terminals .ensures) (c .before .before .before .wide2 .ensures ∙ c .before .before .before .before .nonterminals .ensures) (c .before .wide3 .ensures ∙ c .before .before .productions .ensures) (c .wide32 .ensures)
+returns c =
+    let args = c .before .before .before .before .before .before .before .before .args in
+    let pre = c .before .before .before .before .before .before .before .before .pre in
+    let terminals′ = c .before .before .before .before .before .before .terminals in
+    let wide = c .before .before .before .before .before .wide in
+    let nonterminals′ = c .before .before .before .before .nonterminals in
+    let wide2 = c .before .before .before .wide2 in
+    let productions′ = c .before .before .productions in
+    let wide3 = c .before .wide3 in
+    row-place _ (args .q) _ _ _ _ (pre .0) (pre .1) (wide .ensures ∙ terminals′ .ensures) (wide2 .ensures ∙ nonterminals′ .ensures) (wide3 .ensures ∙ productions′ .ensures) (c .wide32 .ensures)
 
 pub row-at-spec : {M : Type 1} → statement M
 row-at-spec =

@@ -29,11 +29,19 @@ mul-w : tie.Need-mul-w Inv-loop μ-loop
 mul-w c = omega (arith, c .before .before .before .before .before .before .pre .1 .most)
 
 slice-write-w : tie.Need-slice-write-w Inv-loop μ-loop
-slice-write-w c = omega (arith, c .before .before .loop .inv .1 .rest .long, c .before .before .before .before .before .before .pre .2, c .before .before .before .before .before .before .pre .1 .most, c .wide32 .ensures)
+slice-write-w c =
+    let pre = c .before .before .before .before .before .before .pre in
+    let loop = c .before .before .loop in
+    omega (arith, loop .inv .1 .rest .long, pre .2, pre .1 .most, c .wide32 .ensures)
 
 row-requires : tie.Need-row-requires Inv-loop μ-loop
-row-requires c κs = let C = store-row _ _ _ (c .before .before .before .before .before .before .before .pre .1) (well-formed _ (c .before .before .before .before .before .before .before .pre .0) .limits .terminals-from) _ _ _ _ _ (c .before .wide32 .ensures) (omega (arith, c .before .before .before .before .before .before .before .pre .1 .most)) (omega (arith, c .before .before .before .loop .inv .1 .rest .long, c .before .before .before .before .before .before .before .pre .2)) (c .before .before .before .loop .inv .1) in
-    (c .before .before .before .before .before .before .before .pre .0, c .before .before .before .before .before .before .before .pre .1, c .before .before .loop-test .taken, simp length-set (omega (arith, c .before .before .before .loop .inv .1 .rest .long, c .before .before .before .before .before .before .before .pre .2)), C .passed)
+row-requires c κs =
+    let pre = c .before .before .before .before .before .before .before .pre in
+    let loop = c .before .before .before .loop in
+    let loop-test = c .before .before .loop-test in
+    let wide32 = c .before .wide32 in
+    let C = store-row _ _ _ (pre .1) (well-formed _ (pre .0) .limits .terminals-from) _ _ _ _ _ (wide32 .ensures) (omega (arith, pre .1 .most)) (omega (arith, loop .inv .1 .rest .long, pre .2)) (loop .inv .1) in
+    (pre .0, pre .1, loop-test .taken, simp length-set (omega (arith, loop .inv .1 .rest .long, pre .2)), C .passed)
 
 add-q : tie.Need-add-q Inv-loop μ-loop
 add-q c = omega (arith, c .before .before .before .before .before .before .before .before .before .before .pre .1 .most)
@@ -42,8 +50,13 @@ loop-less : tie.Need-loop-less Inv-loop μ-loop
 loop-less c = search needs
 
 loop-again : tie.Need-loop-again Inv-loop μ-loop
-loop-again c = let C = store-row _ _ _ (c .before .before .before .before .before .before .before .before .before .before .pre .1) (well-formed _ (c .before .before .before .before .before .before .before .before .before .before .pre .0) .limits .terminals-from) _ _ _ _ _ (c .before .before .before .before .wide32 .ensures) (omega (arith, c .before .before .before .before .before .before .before .before .before .before .pre .1 .most)) (omega (arith, c .before .before .before .before .before .before .loop .inv .1 .rest .long, c .before .before .before .before .before .before .before .before .before .before .pre .2)) (c .before .before .before .before .before .before .loop .inv .1) in
-    (omega arith, row-done _ _ _ (well-formed _ (c .before .before .before .before .before .before .before .before .before .before .pre .0) .limits .terminals-from) (c .before .before .before .before .before .before .before .before .before .before .pre .1) _ _ _ _ _ _ refl (come-trans _ _ _ _ _ _ _ _ _ (C .rest) (c .before .before .row .ensures)))
+loop-again c =
+    let pre = c .before .before .before .before .before .before .before .before .before .before .pre in
+    let loop = c .before .before .before .before .before .before .loop in
+    let wide32 = c .before .before .before .before .wide32 in
+    let row = c .before .before .row in
+    let C = store-row _ _ _ (pre .1) (well-formed _ (pre .0) .limits .terminals-from) _ _ _ _ _ (wide32 .ensures) (omega (arith, pre .1 .most)) (omega (arith, loop .inv .1 .rest .long, pre .2)) (loop .inv .1) in
+    (omega arith, row-done _ _ _ (well-formed _ (pre .0) .limits .terminals-from) (pre .1) _ _ _ _ _ _ refl (come-trans _ _ _ _ _ _ _ _ _ (C .rest) (row .ensures)))
 
 same-length : tie.Need-same-length Inv-loop μ-loop
 same-length c = c .before .loop .inv .1 .rest .long

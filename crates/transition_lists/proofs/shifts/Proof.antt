@@ -24,10 +24,16 @@ wider-requires : tie.Need-wider-requires Inv-loop μ-loop
 wider-requires c κs = search needs
 
 row-at-requires : tie.Need-row-at-requires Inv-loop μ-loop
-row-at-requires c κs = (c .before .before .before .before .pre .0, omega (arith, c .before .before .before .before .pre .1, c .before .before .before .before .pre .2))
+row-at-requires c κs =
+    let pre = c .before .before .before .before .pre in
+    (pre .0, omega (arith, pre .1, pre .2))
 
 loop-holds : tie.Need-loop-holds Inv-loop μ-loop
-loop-holds c = (omega arith, let l = well-formed _ (c .before .before .before .before .before .pre .0) .limits .terminals-from in omega (arith, c .before .wider .ensures, c .before .before .terminals .ensures), marked-start _ _)
+loop-holds c =
+    let pre = c .before .before .before .before .before .pre in
+    let terminals′ = c .before .before .terminals in
+    let wider = c .before .wider in
+    (omega arith, let l = well-formed _ (pre .0) .limits .terminals-from in omega (arith, wider .ensures, terminals′ .ensures), marked-start _ _)
 
 wide32-requires : tie.Need-wide32-requires Inv-loop μ-loop
 wide32-requires c κs = search needs
@@ -39,7 +45,11 @@ at-requires : tie.Need-at-requires Inv-loop μ-loop
 at-requires c κs = search needs
 
 mark-requires : tie.Need-mark-requires Inv-loop μ-loop
-mark-requires c κs = let l = well-formed _ (c .before .before .before .before .before .before .before .before .before .pre .0) .limits .terminals-to in omega (arith, c .before .before .before .before .before .wider .ensures, c .before .before .before .before .before .before .terminals .ensures)
+mark-requires c κs =
+    let pre = c .before .before .before .before .before .before .before .before .before .pre in
+    let terminals′ = c .before .before .before .before .before .before .terminals in
+    let wider = c .before .before .before .before .before .wider in
+    let l = well-formed _ (pre .0) .limits .terminals-to in omega (arith, wider .ensures, terminals′ .ensures)
 
 add-x : tie.Need-add-x Inv-loop μ-loop
 add-x c = search needs
@@ -48,15 +58,27 @@ loop-less : tie.Need-loop-less Inv-loop μ-loop
 loop-less c = search needs
 
 loop-again : tie.Need-loop-again Inv-loop μ-loop
-loop-again c = (
-  omega arith,
-  omega arith,
-  marked-more _ _ _ _ _ _ (c .before .before .before .before .loop .inv .0)
-      (cell-at _ _ _ _ _ _ _ _ (c .before .before .before .before .before .before .before .before .before .before .pre .1) (let l = c .before .before .before .loop-test .taken in omega (arith, c .before .before .before .before .before .before .wider .ensures, c .before .before .before .before .before .before .before .terminals .ensures)) (c .before .before .before .before .before .row-at .ensures .0) (c .before .before .wide32 .ensures) (c .before .at .ensures)) (c .before .before .before .before .loop .inv .2) (c .mark .ensures),
-)
+loop-again c =
+    let pre = c .before .before .before .before .before .before .before .before .before .before .pre in
+    let terminals′ = c .before .before .before .before .before .before .before .terminals in
+    let wider = c .before .before .before .before .before .before .wider in
+    let row-at = c .before .before .before .before .before .row-at in
+    let loop = c .before .before .before .before .loop in
+    let loop-test = c .before .before .before .loop-test in
+    let wide32 = c .before .before .wide32 in (
+      omega arith,
+      omega arith,
+      marked-more _ _ _ _ _ _ (loop .inv .0)
+          (cell-at _ _ _ _ _ _ _ _ (pre .1) (let l = loop-test .taken in omega (arith, wider .ensures, terminals′ .ensures)) (row-at .ensures .0) (wide32 .ensures) (c .before .at .ensures)) (loop .inv .2) (c .mark .ensures),
+    )
 
 returns : tie.Need-returns Inv-loop μ-loop
-returns c = marked-end _ _ _ _ _ _ (c .before .before .before .wider .ensures ∙ c .before .before .before .before .terminals .ensures) (well-formed _ (c .before .before .before .before .before .before .before .pre .0) .limits .terminals-from) (c .before .loop .inv .1) (c .loop-test .left) (c .before .loop .inv .2)
+returns c =
+    let pre = c .before .before .before .before .before .before .before .pre in
+    let terminals′ = c .before .before .before .before .terminals in
+    let wider = c .before .before .before .wider in
+    let loop = c .before .loop in
+    marked-end _ _ _ _ _ _ (wider .ensures ∙ terminals′ .ensures) (well-formed _ (pre .0) .limits .terminals-from) (loop .inv .1) (c .loop-test .left) (loop .inv .2)
 
 pub shifts-spec : {M : Type 1} → statement M
 shifts-spec =

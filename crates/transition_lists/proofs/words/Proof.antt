@@ -26,13 +26,20 @@ add-i : tie.Need-add-i Inv-loop μ-loop
 add-i c = search needs
 
 shifts-requires : tie.Need-shifts-requires Inv-loop μ-loop
-shifts-requires c κs = (c .before .before .before .before .before .before .pre .0, c .before .loop-test .taken, c .before .before .before .before .before .before .pre .1)
+shifts-requires c κs =
+    let pre = c .before .before .before .before .before .before .pre in
+    let loop-test = c .before .loop-test in
+    (pre .0, loop-test .taken, pre .1)
 
 mul-z : tie.Need-mul-z Inv-loop μ-loop
 mul-z c = omega (arith, c .before .before .before .before .before .before .before .pre .1)
 
 slice-write-z : tie.Need-slice-write-z Inv-loop μ-loop
-slice-write-z c = omega (arith, c .before .before .before .before .before .before .before .pre .1, c .before .before .before .before .before .before .before .pre .2, c .before .before .before .loop .inv .1, c .before .wide32 .ensures)
+slice-write-z c =
+    let pre = c .before .before .before .before .before .before .before .pre in
+    let loop = c .before .before .before .loop in
+    let wide32 = c .before .wide32 in
+    omega (arith, pre .1, pre .2, loop .inv .1, wide32 .ensures)
 
 add-q : tie.Need-add-q Inv-loop μ-loop
 add-q c = omega (arith, c .before .before .before .before .before .before .before .pre .1)
@@ -41,7 +48,11 @@ loop-less : tie.Need-loop-less Inv-loop μ-loop
 loop-less c = search needs
 
 loop-again : tie.Need-loop-again Inv-loop μ-loop
-loop-again c = (omega arith, simp length-set (c .before .before .before .loop .inv .1), λ w. copied-word _ w _ _ _ _ _ _ (c .before .wide32 .ensures) (omega (arith, c .before .before .before .before .before .before .before .pre .1)) (omega (arith, c .before .before .before .before .before .before .before .pre .2, c .before .before .before .loop .inv .1)) (c .shifts .ensures) (c .before .before .before .loop .inv .2 w))
+loop-again c =
+    let pre = c .before .before .before .before .before .before .before .pre in
+    let loop = c .before .before .before .loop in
+    let wide32 = c .before .wide32 in
+    (omega arith, simp length-set (loop .inv .1), λ w. copied-word _ w _ _ _ _ _ _ (wide32 .ensures) (omega (arith, pre .1)) (omega (arith, pre .2, loop .inv .1)) (c .shifts .ensures) (loop .inv .2 w))
 
 same-length : tie.Need-same-length Inv-loop μ-loop
 same-length c = c .before .loop .inv .1
