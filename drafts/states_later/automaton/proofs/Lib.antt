@@ -1,0 +1,4 @@
+pub mod ItemNumbers
+pub mod OrderedStates
+pub mod FoundStates
+pub mod Outcomes

@@ -1,0 +1,6 @@
+pub mod NumberLaws
+pub mod AreaLaws
+pub mod FillLaws
+pub mod LeadLaws
+pub mod MaskLaws
+pub mod ClosureLaws

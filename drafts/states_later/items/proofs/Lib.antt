@@ -1,0 +1,5 @@
+pub mod ItemLaws
+pub mod AreaLaws
+pub mod NextLaws
+pub mod ShiftLaws
+pub mod MeetLaws

@@ -1,0 +1,129 @@
+// The states of a card by number, with their transitions, and refusal 11.
+// The slots of z, and w, are those of crate closures: slot q < 256 is state q.
+ghost use mathlib.Core.Path.{_≡_};
+ghost use mathlib.Core.Bool.{cond};
+ghost use Prim.Native.Nat.{_+_, _*_, _≤_, _<_, _^_};
+ghost use lib.Dec.{eqb};
+ghost use lib.ListN.{length, getD};
+ghost use Rattle.grammar.specs.Card.{terminals, nonterminals, formFault};
+ghost use Rattle.closures.specs.Sets.{Start};
+ghost use Rattle.closures.specs.Areas.{slot, Filled, Prepared};
+ghost use Rattle.states.specs.Places.{Found, Placed, Target};
+ghost use Rattle.states.specs.States.{Apart, Rowed, Stated, Built};
+
+// The first of the n states that is s, or n.
+fn find(z: &[u64], n: usize, s: [u64; 11]) -> usize
+    requires { ⌜ n * 11 ≤ length (now z) ⌝ }
+    ensures { λ v. ⌜ Found (now (z .entry)) n s v ⌝ }
+{
+    let mut q = 0;
+    while q < n {
+        if items::is_at(s, z, q * 11) {
+            return q;
+        }
+        q += 1;
+    }
+    n
+}
+
+// The number of the state s among n: found, or the next one, and then s is put down; 256 where there is no room for it.
+fn place(z: &mut [u64], n: usize, s: [u64; 11]) -> usize
+    requires { ⌜ (n ≤ 256) × (8192 ≤ length (now z)) ⌝ }
+    ensures { λ v. ⌜ Placed (now (z .entry)) n s (now (z .exit)) v ⌝ }
+{
+    let q = find(z, n, s);
+    if q < n {
+        return q;
+    }
+    if n < 256 {
+        items::store(z, n * 11, s);
+    }
+    n
+}
+
+// The state to which s has a transition on x, 0 for none, 256 where there is no room for it.
+fn target(c: &[u16], z: &mut [u64], w: &[u32], n: usize, s: [u64; 11], x: usize) -> usize
+    requires { ⌜ (formFault (now c) ≡ 0) × (704 ≤ length (now w)) × Filled (now c) (now w) 704 × Prepared (now c) (now z) × (n ≤ 256) × (0 < x) × (x < terminals (now c) + nonterminals (now c)) ⌝ }
+    ensures { λ v. ⌜ Target (now (c .entry)) s x (now (z .entry)) n (now (z .exit)) v ⌝ }
+{
+    let at = (316 + x) * 11;
+    if !items::meets(s, z, at) {
+        return 0;
+    }
+    let core = items::advance(s, items::load(z, at));
+    let d = closures::closure(c, w, z, core);
+    place(z, n, d)
+}
+
+// One more than n where p is n.
+fn grown(p: usize, n: usize) -> usize
+    requires { ⌜ n < 2 ^ 16 ⌝ }
+    ensures { λ r. ⌜ r ≡ cond (eqb p n) (n + 1) n ⌝ }
+{
+    if p == n { n + 1 } else { n }
+}
+
+// The row of the state s, from the place `at` on: its transitions on the symbols in ascending order, none on 0.
+// The answer is the number of states now, or 257 where more than 256 are needed.
+fn row(
+    c: &[u16],
+    t: &mut [u16],
+    z: &mut [u64],
+    w: &[u32],
+    at: usize,
+    s: [u64; 11],
+    m: usize,
+) -> usize
+    requires { ⌜ (formFault (now c) ≡ 0) × (704 ≤ length (now w)) × Filled (now c) (now w) 704 × Prepared (now c) (now z) × (0 < m) × (m ≤ 256) × Apart (now z) m × (at + (terminals (now c) + nonterminals (now c)) ≤ 32004) × (32004 ≤ length (now t)) × (getD (now t) at 0 ≡ 0) ⌝ }
+    ensures { λ v. ⌜ Rowed (now (c .entry)) s (now (z .entry)) m (now (t .entry)) at (now (z .exit)) (now (t .exit)) v ⌝ }
+{
+    let end = card::wide(card::terminals(c)) + card::wide(card::nonterminals(c));
+    let mut n = m;
+    let mut x: usize = 1;
+    while x < end {
+        let p = target(c, z, w, n, s, x);
+        if p == 256 {
+            return 257;
+        }
+        t[at + x] = p as u16;
+        n = grown(p, n);
+        x += 1;
+    }
+    n
+}
+
+// The rows of all states in number order, from the first, which stands in its slot.
+fn rows(c: &[u16], t: &mut [u16], z: &mut [u64], w: &[u32]) -> usize
+    requires { ⌜ (formFault (now c) ≡ 0) × (704 ≤ length (now w)) × Filled (now c) (now w) 704 × Prepared (now c) (now z) × (32004 ≤ length (now t)) × Start (now c) (slot (now z) 0) ⌝ }
+    ensures { λ v. ⌜ Stated (now (c .entry)) (now (z .entry)) (now (t .entry)) (now (z .exit)) (now (t .exit)) v ⌝ }
+{
+    let width = card::wide(card::terminals(c)) + card::wide(card::nonterminals(c));
+    let mut n: usize = 1;
+    let mut at = 4 + 2 * card::wide(card::productions(c));
+    let mut q: usize = 0;
+    while q < n {
+        let s = items::load(z, q * 11);
+        t[at] = 0;
+        n = row(c, t, z, w, at, s, n);
+        if n == 257 {
+            return n;
+        }
+        at += width;
+        q += 1;
+    }
+    n
+}
+
+// The states of a card: their number, their item sets in z and their transitions in the rows of t; 257 where they are more than 256.
+pub fn states(c: &[u16], t: &mut [u16], z: &mut [u64], w: &mut [u32]) -> usize
+    requires { ⌜ (formFault (now c) ≡ 0) × (32004 ≤ length (now t)) × (8192 ≤ length (now z)) × (704 ≤ length (now w)) ⌝ }
+    ensures { λ v. ⌜ Built (now (c .entry)) (now (t .entry)) (now (z .entry)) (now (w .entry)) (now (t .exit)) (now (z .exit)) (now (w .exit)) v ⌝ }
+{
+    closures::fill(c, w);
+    closures::prepare(c, w, z);
+    let p = card::productions(c);
+    let f = card::wide32(card::start(c, p)) + card::wide(p);
+    let first = closures::closure(c, w, z, items::with(items::empty(), f));
+    items::store(z, 0, first);
+    rows(c, t, z, w)
+}
