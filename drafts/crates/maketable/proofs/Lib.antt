@@ -1,4 +1,0 @@
-pub mod Errno
-pub mod Example
-pub mod Parts
-pub mod Texts

@@ -1,5 +1,0 @@
-pub mod CardText
-pub mod Front
-pub mod Numbers
-pub mod Texts
-pub mod Whole

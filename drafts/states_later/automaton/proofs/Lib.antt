@@ -1,4 +1,0 @@
-pub mod ItemNumbers
-pub mod OrderedStates
-pub mod FoundStates
-pub mod Outcomes

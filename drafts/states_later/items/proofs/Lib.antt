@@ -1,5 +1,0 @@
-pub mod ItemLaws
-pub mod AreaLaws
-pub mod NextLaws
-pub mod ShiftLaws
-pub mod MeetLaws
