@@ -1,0 +1,50 @@
+-- The refusals 1 to 9 and their areas, which stay as they were.
+use mathlib.Core.Path.{_≡_, refl, sym, ap, _∙_}
+use mathlib.Core.Logic.{_≢_}
+use mathlib.Core.Bool.{Bool, true, false}
+use mathlib.Core.List.{List, _∷_, []}
+use Prim.Native.Nat.{ℕ, zero, suc, _+_, _*_, _≤_, _<_}
+use native.Mathlib.Omega.{arith}
+use lib.ListN.{length}
+use lib.Dec.{leb, eqb, ltb}
+use borrow.Author.Tests.{le-ltb}
+use Rattle.sets.specs.Tests.{unless}
+use Rattle.grammar.specs.Card.{sizesOk, leftsOk, rightsOk, startOf, symbols, productions, formFault}
+use Rattle.lalr.specs.Generator.{refused, generated, writes, cardAnswer}
+use Rattle.lalr.proofs.Finish.{Room, by-card, short-table, short-words, short-halves}
+use Rattle.generator.specs.declared.Answer.the-variants.{Refused}
+use Rattle.generator.specs.Answer.{GeneratesAs}
+use Rattle.generator.proofs.Laws.{keeps}
+
+bounded : (b : Bool) (n m : ℕ) → n ≤ 9 → m ≤ 9 → unless b n m ≤ 9
+bounded true n m h k = k
+bounded false n m h k = h
+
+-- the refusals of the card's form are 4 to 9
+fault-most : (c : List ℕ) → formFault c ≤ 9
+unfolding formFault
+fault-most c =
+    bounded (leb 4 (length c)) 4 _ (omega arith)
+    (bounded (sizesOk c) 5 _ (omega arith)
+    (bounded (eqb (length c) (4 + 2 * productions c + symbols c)) 6 _ (omega arith)
+    (bounded (leftsOk c) 7 _ (omega arith)
+    (bounded (eqb (startOf c (productions c)) (symbols c)) 8 _ (omega arith) (bounded (rightsOk c) 9 0 (omega arith) (omega arith))))))
+
+module _ (t z w c : List ℕ) where
+  pub first : length t < 32004 → GeneratesAs (generated t z w c) (Refused 1) t z w
+  first h = keeps t z w c (refused 1) (Refused 1) (short-table t z w c h) refl refl
+
+  pub second : 32004 ≤ length t → length z < 8192 → GeneratesAs (generated t z w c) (Refused 2) t z w
+  second h k = keeps t z w c (refused 2) (Refused 2) (short-words t z w c h k) refl refl
+
+  pub third : 32004 ≤ length t → 8192 ≤ length z → length w < 16384 → GeneratesAs (generated t z w c) (Refused 3) t z w
+  third h k l = keeps t z w c (refused 3) (Refused 3) (short-halves t z w c h k l) refl refl
+
+  faulty : (n : ℕ) → formFault c ≡ n → n ≢ 0 → cardAnswer c ≡ refused n
+  faulty zero e h = absurd (h refl)
+  faulty (suc n) e h = rw (e, cardAnswer) refl
+
+  -- 4 to 9
+  pub form-refused : (n : ℕ) → n ≡ formFault c → n ≢ 0 → Room t z w → GeneratesAs (generated t z w c) (Refused n) t z w
+  form-refused n e h o =
+      keeps t z w c (refused n) (Refused n) (by-card t z w c o (refused n) (faulty n (sym e) h)) (le-ltb 10 n (let l = fault-most c in omega (arith, e, l))) refl

@@ -1,0 +1,4 @@
+pub mod Laws
+pub mod Walks
+pub mod Front
+pub mod Made

@@ -1,0 +1,91 @@
+// Makes the parse table of a grammar card, or refuses it.
+ghost use mathlib.Core.Path.{_≡_};
+ghost use mathlib.Core.List.{List};
+ghost use Prim.Native.Nat.{ℕ, _≤_, _<_};
+ghost use lib.ListN.{length};
+ghost use Rattle.grammar.specs.Card.{formFault, grammarOf};
+ghost use Rattle.transitions.specs.Next.{nextOf, Numbered};
+ghost use Rattle.transitions.specs.Data.{Data};
+ghost use Rattle.lalr.specs.Generator.{generated};
+ghost use Rattle.lalr.specs.Meaning.{AllUseful};
+ghost use Rattle.lalr.proofs.Finish.{Room};
+ghost use Rattle.generator.specs.Answer.{GeneratesAs};
+ghost use Rattle.generator.specs.Phases.{Cleared, Complete};
+use lookaheads::Clash;
+
+// A table; a refusal with its number alone; 10 with the nonterminal; 13 with state, terminal and the two lowest values.
+pub enum Answer {
+    Table,
+    Refused(u16),
+    Useless(u16),
+    Conflict(u16, u16, u16, u16),
+}
+
+// Zeros all three areas over the lengths given.
+fn clear(t: &mut [u16], z: &mut [u64], w: &mut [u32])
+    requires { ⌜ Room (now t) (now z) (now w) ⌝ }
+    ensures { λ _. ⌜ Cleared (now (t .entry)) (now (z .entry)) (now (w .entry)) (now (t .exit)) (now (z .exit)) (now (w .exit)) ⌝ }
+{
+    cells::clear16(t, 0, 32004);
+    cells::clear64(z, 0, 8192);
+    cells::clear32(w, 0, 16384);
+}
+
+// Direct reads, the walk along reads, then along includes.
+fn walk(c: &[u16], t: &[u16], w: &[u32], z: &mut [u64], n: u32, k: u32)
+    requires { ⌜ Numbered (now c) n (nextOf (now c) (now t) n) × (8192 ≤ length (now z)) × ((e : ℕ) × Data (now c) (now w) n k e (nextOf (now c) (now t) n)) ⌝ }
+    ensures { λ _. ⌜ Complete (now (c .entry)) (now (w .entry)) n k (nextOf (now (c .entry)) (now (t .entry)) n) (now (z .entry)) (now (z .exit)) ⌝ }
+{
+    transition_lists::direct(c, t, w, z, n, k);
+    let nodes = card::wide32(k);
+    digraph::complete(0, c, w, z, nodes);
+    digraph::complete(1, c, w, z, nodes);
+}
+
+// The table of a card to which none of the refusals 1 to 10 applies, or refusal 11, 12 or 13.
+fn make(c: &[u16], t: &mut [u16], z: &mut [u64], w: &mut [u32]) -> Answer
+    requires { ⌜ (formFault (now c) ≡ 0) × AllUseful (grammarOf (now c)) × Room (now t) (now z) (now w) ⌝ }
+    ensures { λ r. ⌜ GeneratesAs (generated (now (t .entry)) (now (z .entry)) (now (w .entry)) (now (c .entry))) r (now (t .exit)) (now (z .exit)) (now (w .exit)) ⌝ }
+{
+    let n = states::states(c, t, z, w);
+    if 256 < n {
+        clear(t, z, w);
+        return Answer::Refused(11);
+    }
+    let e = nonterminals::nullable(c);
+    let k = transition_lists::build(c, t, w, n as u32, e);
+    if 2048 < k {
+        clear(t, z, w);
+        return Answer::Refused(12);
+    }
+    walk(c, t, w, z, n as u32, k);
+    let clash = lookaheads::fill(c, t, w, z, n as u16);
+    match clash {
+        Clash::Free => Answer::Table,
+        Clash::At(q, m, v, u) => Answer::Conflict(q, m, v, u),
+    }
+}
+
+// Makes the table of a card in the table area. Every input is answered, and refusals 1 to 10 change no area.
+pub fn generate(card: &[u16], table: &mut [u16], words: &mut [u64], halves: &mut [u32]) -> Answer
+    ensures { λ r. ⌜ GeneratesAs (generated (now (table .entry)) (now (words .entry)) (now (halves .entry)) (now (card .entry))) r (now (table .exit)) (now (words .exit)) (now (halves .exit)) ⌝ }
+{
+    if table.len() < 32004 {
+        return Answer::Refused(1);
+    }
+    if words.len() < 8192 {
+        return Answer::Refused(2);
+    }
+    if halves.len() < 16384 {
+        return Answer::Refused(3);
+    }
+    let fault = card::form_fault(card);
+    if fault != 0 {
+        return Answer::Refused(fault);
+    }
+    let x = nonterminals::useless(card);
+    if x < card::terminals(card) + card::nonterminals(card) {
+        return Answer::Useless(x);
+    }
+    make(card, table, words, halves)
+}
