@@ -19,7 +19,7 @@ use Rattle.tables.specs.Layout.{build}
 use Rattle.tables.proofs.LayoutLaws.{built-sizes, built-long, built-left, built-length, built-cell}
 use Rattle.lr.specs.States.{States, MoreStates, nonterminalTransitions}
 use Rattle.lr.specs.Cells as lr
-use Rattle.lalr.specs.Generator.{made, refused, uselessAt, conflict, numbersOf, writes, tableLeft, tableOf, cardAnswer, generated}
+use Rattle.lalr.specs.Generator.{made, refused, uselessAt, conflict, writes, tableLeft, tableOf, cardAnswer, generated}
 use Rattle.lalr.specs.Generator as definition
 use Rattle.lalr.specs.Meaning.{AllUseful, Sized, Judged, useless, many, wide, clash, fine}
 use Rattle.lalr.proofs.Finish.{Room, judged, by-card, left-alone, all-covered, table-found}
@@ -37,7 +37,7 @@ use Rattle.bridge.proofs.SameStates.{states-same, next-inside}
 use Rattle.bridge.proofs.ActionLaws.{cell-is, conflict-is}
 use Rattle.generator.specs.declared.Answer.{Answer}
 use Rattle.generator.specs.declared.Answer.the-variants.{Table, Refused, Useless, Conflict as Met}
-use Rattle.generator.specs.Answer.{numbers, GeneratesAs}
+use Rattle.generator.specs.Answer.{meaning, GeneratesAs}
 use Rattle.generator.specs.Phases.{Cleared, Complete}
 
 -- ---- areas
@@ -57,11 +57,11 @@ all-useful c x l h = record { each-nonterminal = λ y n. l .before y (n .from) (
 
 module _ (t₀ z₀ w₀ c : List ℕ) where
   -- refusals 1 to 10 leave the areas
-  pub keeps : (a : definition.Answer) (r : Answer) → generated t₀ z₀ w₀ c .answer ≡ a → writes a ≡ false → numbers r ≡ numbersOf a → GeneratesAs (generated t₀ z₀ w₀ c) r t₀ z₀ w₀
+  pub keeps : (a : definition.Answer) (r : Answer) → generated t₀ z₀ w₀ c .answer ≡ a → writes a ≡ false → meaning r ≡ a → GeneratesAs (generated t₀ z₀ w₀ c) r t₀ z₀ w₀
   keeps a r e n k = rw (left-alone t₀ z₀ w₀ c a e n) (record { answer = k; table = refl; words = refl; halves = refl })
 
   -- the others cover them
-  pub covers-all : (a : definition.Answer) (r : Answer) (t z w : List ℕ) → generated t₀ z₀ w₀ c .answer ≡ a → writes a ≡ true → numbers r ≡ numbersOf a
+  pub covers-all : (a : definition.Answer) (r : Answer) (t z w : List ℕ) → generated t₀ z₀ w₀ c .answer ≡ a → writes a ≡ true → meaning r ≡ a
       → t ≡ covered 32004 (tableLeft a c) t₀ → z ≡ covered 8192 [] z₀ → w ≡ covered 16384 [] w₀ → GeneratesAs (generated t₀ z₀ w₀ c) r t z w
   covers-all a r t z w e n k et ez ew = rw (all-covered t₀ z₀ w₀ c a e n) (record { answer = k; table = et; words = ez; halves = ew })
 

@@ -1,6 +1,6 @@
 use mathlib.Core.Path.{ap, _∙_}
-use mathlib.Core.List.{List, []}
-use Prim.Native.Nat.{ℕ}
+use mathlib.Core.List.{[]}
+use Rattle.lalr.specs.Generator.{Answer, numbersOf}
 use Rattle.sets.specs.Lists.{covered}
 use borrow.Author.Needs.{needs}
 use Rattle.generator_c.proofs.sidumza_generate.Statement.{statement}
@@ -32,7 +32,7 @@ same-length-3 c = search needs
 
 -- src/lib.rt:21:1
 returns : tie.Need-returns
-returns c = let g = c .before .before .before .before .before .before .before .generate .ensures in record { numbers = c .five .ensures ∙ ap (λ (l : List ℕ). covered 5 l []) (g .answer); table = g .table; words = g .words; halves = g .halves }
+returns c = let g = c .before .before .before .before .before .before .before .generate .ensures in record { numbers = c .five .ensures ∙ ap (λ (a : Answer). covered 5 (numbersOf a) []) (g .answer); table = g .table; words = g .words; halves = g .halves }
 
 pub sidumza-generate-spec : {M : Type 1} → statement M
 sidumza-generate-spec =

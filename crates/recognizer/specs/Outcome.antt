@@ -1,0 +1,38 @@
+-- Demand 3 across both calls: "For every accepted grammar and every line, allowance and areas: if the reader, with that table as the maker left it, takes the line .."
+use Prim.Native.Nat.{ℕ}
+use mathlib.Core.Path.{_≡_}
+use mathlib.Core.Logic.{_≢_}
+use mathlib.Core.List.{List}
+use Rattle.grammar.specs.Card.{grammarOf}
+use Rattle.machine.specs.Checks.{Reading, reading}
+use Rattle.claim.specs.Claim.{Demand3}
+use Rattle.lalr.specs.Generator.{Generated, made, generated}
+use Rattle.generator.specs.Answer.{meaning}
+use Rattle.generator.specs.declared.Answer as generator
+use Rattle.parser.specs.Answer.{ReadsAs}
+use Rattle.parser.specs.declared.Answer as parser
+use Rattle.recognizer.specs.declared.Outcome as outcomes
+use Rattle.recognizer.specs.declared.Outcome.the-variants.{NoTable, Read}
+
+-- the maker made no table and says why; the reader's areas are as they were
+pub record WithoutTable (g : Generated) (a : generator.Answer) (st₀ li₀ st li : List ℕ) : Type 0 where
+  pub no-table : g .answer ≢ made
+  pub answer : meaning a ≡ g .answer
+  pub stack : st ≡ st₀
+  pub list : li ≡ li₀
+
+-- the maker made a table, the answer is that of the reading with the table as it was left, and says of the input what the grammar says
+pub record WithTable (g : Generated) (card input : List ℕ) (r : Reading) (a : parser.Answer) (st li : List ℕ) : Type 0 where
+  pub table : g .answer ≡ made
+  pub reads : ReadsAs r a st li
+  pub demand-3 : Demand3 (grammarOf card) input r
+
+abbrev pub Ends : Generated → List ℕ → List ℕ → ℕ → List ℕ → List ℕ → outcomes.Outcome → List ℕ → List ℕ → Type 0
+Ends g card input limit st₀ li₀ (NoTable a) st li = WithoutTable g a st₀ li₀ st li
+Ends g card input limit st₀ li₀ (Read a) st li = WithTable g card input (reading (g .table) input st₀ li₀ limit) a st li
+
+pub record Recognizes (card input : List ℕ) (limit : ℕ) (t₀ z₀ w₀ st₀ li₀ : List ℕ) (r : outcomes.Outcome) (t z w st li : List ℕ) : Type 0 where
+  pub outcome : Ends (generated t₀ z₀ w₀ card) card input limit st₀ li₀ r st li
+  pub table : t ≡ generated t₀ z₀ w₀ card .table
+  pub words : z ≡ generated t₀ z₀ w₀ card .words
+  pub halves : w ≡ generated t₀ z₀ w₀ card .halves

@@ -1,0 +1,35 @@
+// Makes the table of a card and reads an input with it.
+ghost use Rattle.recognizer.specs.Outcome.{Recognizes};
+
+// The maker's answer where it made no table, or the reader's with the table made.
+pub enum Outcome {
+    NoTable(generator::Answer),
+    Read(parser::Answer),
+}
+
+// Every card, input, step limit and area is answered, and what is answered of the input is what the grammar says.
+pub fn recognize(
+    card: &[u16],
+    input: &[u8],
+    step_limit: u32,
+    table: &mut [u16],
+    words: &mut [u64],
+    halves: &mut [u32],
+    stack: &mut [u16],
+    list: &mut [u16],
+) -> Outcome
+    ensures { λ r. ⌜ Recognizes (now (card .entry)) (now (input .entry)) «step_limit» (now (table .entry)) (now (words .entry)) (now (halves .entry)) (now (stack .entry)) (now (list .entry)) r (now (table .exit)) (now (words .exit)) (now (halves .exit)) (now (stack .exit)) (now (list .exit)) ⌝ }
+{
+    let a = generator::generate(card, table, words, halves);
+    match a {
+        generator::Answer::Table => {
+            let r = parser::parse(table, input, stack, list, step_limit);
+            Outcome::Read(r)
+        }
+        generator::Answer::Refused(n) => Outcome::NoTable(generator::Answer::Refused(n)),
+        generator::Answer::Useless(x) => Outcome::NoTable(generator::Answer::Useless(x)),
+        generator::Answer::Conflict(q, m, v, u) => {
+            Outcome::NoTable(generator::Answer::Conflict(q, m, v, u))
+        }
+    }
+}
