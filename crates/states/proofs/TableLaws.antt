@@ -1,4 +1,4 @@
--- The table, row by row. Assumes nothing.
+-- The table, row by row.
 use mathlib.Core.List.{List, [], _∷_}
 use mathlib.Core.Logic.{⊎-elim}
 use mathlib.Core.Path.{_≡_, refl, sym, ap, _∙_}
@@ -20,7 +20,7 @@ use Rattle.sets.proofs.HasLaws.{lt-or-ge}
 use Rattle.sets.proofs.ListLaws.{each-same}
 use Rattle.states.proofs.RowLaws.{cell-kept}
 use Rattle.states.specs.States.{rowOf, transition, Row, Crowd, Rowed, whole, stopped, Table, Stated, finished, beyond, Built}
-use Rattle.lr.specs.States.{Given, Taken, rowOf as cellsOf}
+use Rattle.lr.specs.States.{Taken, rowOf as cellsOf}
 
 pub row-zero : (c : List ℕ) → rowOf c 0 ≡ 4 + 2 * productions c
 unfolding rowOf
