@@ -19,7 +19,8 @@ use Rattle.sets.proofs.TestLaws.{and-both, and-true}
 use Rattle.grammar.specs.Card.{terminals, nonterminals, productions, formFault}
 use Rattle.grammar.proofs.CardLaws.{well-formed}
 use Rattle.transitions.specs.Area.{leavesOf, nonterminalOf, entersOf, firstOf, enteringOf, precedes}
-use Rattle.transitions.specs.Next.{rowOf, nextOf, Numbered, moves, transitionCount}
+use Rattle.tables.specs.Layout.{rowOf}
+use Rattle.transitions.specs.Next.{nextOf, Numbered, moves, transitionCount}
 use Rattle.occurrences.specs.Stores.{Cleared}
 use Rattle.occurrences.proofs.StoreLaws.{eq-or}
 use Rattle.transition_lists.specs.Stores.{Noted, Celled}

@@ -1,6 +1,7 @@
 use mathlib.Core.Path.{_∙_}
 use native.Mathlib.Omega.{arith}
 use borrow.Author.Needs.{needs}
+use Rattle.tables.specs.Layout.{rowOf}
 use Rattle.cells.proofs.AreaLaws.{product-is}
 use Rattle.cells.proofs.row.Statement.{statement}
 use Rattle.cells.proofs.row.Tie as tie
@@ -36,6 +37,7 @@ wide-requires-4 : tie.Need-wide-requires-4
 wide-requires-4 c κs = search needs
 
 mul-result-2 : tie.Need-mul-result-2
+unfolding rowOf
 mul-result-2 c =
     let b3 = c .before .before .before in
     let b4 = b3 .before in
@@ -45,6 +47,7 @@ mul-result-2 c =
     let e = product-is (c .wide4 .ensures) (b5 .wide .ensures ∙ b6 .terminals .ensures) (b3 .wide2 .ensures ∙ b4 .nonterminals .ensures) in omega (arith, e, b8 .pre)
 
 add-result-2 : tie.Need-add-result-2
+unfolding rowOf
 add-result-2 c =
     let b1 = c .before in
     let b2 = b1 .before in
@@ -56,6 +59,7 @@ add-result-2 c =
     let e = product-is (c .wide4 .ensures) (b5 .wide .ensures ∙ b6 .terminals .ensures) (b3 .wide2 .ensures ∙ b4 .nonterminals .ensures) in omega (arith, e, b8 .pre, b1 .wide3 .ensures, b2 .productions .ensures)
 
 returns : tie.Need-returns
+unfolding rowOf
 returns c =
     let b1 = c .before in
     let b2 = b1 .before in
