@@ -6,7 +6,7 @@ ghost use Prim.Native.Nat.{ℕ, _+_, _*_, _<_, _≤_};
 ghost use lib.ListN.{length, take};
 ghost use Rattle.sets.specs.Bit.{bit};
 ghost use Rattle.grammar.specs.Card.{terminals as terminalsOf, productions as productionsOf};
-ghost use Rattle.cells.specs.Actions.{Lowest};
+ghost use Rattle.tables.specs.Conflicts.{Lowest};
 ghost use Rattle.cells.specs.Words.{Numbers, Two, Sought, Put, Row};
 ghost use Rattle.sets.specs.Lists.{covered};
 ghost use Rattle.tables.specs.Layout.{rowOf};

@@ -16,7 +16,8 @@ use Rattle.tables.specs.Layout.{rowOf}
 use Rattle.tables.proofs.RowLaws.{row-next, row-mono, row-most}
 use Rattle.transitions.specs.Next.{nextOf, Numbered}
 use Rattle.transitions.specs.Data.{Ordered, Holds, Shifts}
-use Rattle.cells.specs.Actions.{Act, Single, Lowest, Before, lower-state, lower-terminal, Conflict, IsCell}
+use Rattle.tables.specs.Conflicts.{Single, Lowest, Before, lower-state, lower-symbol}
+use Rattle.cells.specs.Actions.{Act, IsCell}
 use Rattle.cells.specs.Words.{Numbers, Two, Written, Row}
 use Rattle.sets.specs.Lists.{covered}
 use Rattle.cells.specs.Areas.{tableArea}
@@ -262,7 +263,7 @@ module _ (c t₀ w z : List ℕ) (n k : ℕ) (stage : Stage c t₀ w z n) (o : O
 
           go : (p i : ℕ) → i < terminals c → Before q m p i → Single (Stands c t₀ w z n k p i)
           go p i hi (lower-state l) = cell-single (getD t (rowOf c p + i) 0) (done .cells p i l hi)
-          go p i hi (lower-terminal e l) = subst (λ (x : ℕ). Single (Stands c t₀ w z n k x i)) (sym e) (row i hi l)
+          go p i hi (lower-symbol e l) = subst (λ (x : ℕ). Single (Stands c t₀ w z n k x i)) (sym e) (row i hi l)
 
   -- ---- the answer
 

@@ -9,7 +9,8 @@ use Rattle.grammar.specs.Card as card
 use Rattle.tables.specs.Layout.{rowOf}
 use Rattle.transitions.specs.Next.{nextOf, Numbered}
 use Rattle.transitions.specs.Data.{Ordered, Holds, Shifts}
-use Rattle.cells.specs.Actions.{Act, Lowest, IsCell, Conflict}
+use Rattle.tables.specs.Conflicts.{Lowest, Conflict}
+use Rattle.cells.specs.Actions.{Act, IsCell}
 use Rattle.sets.specs.Lists.{covered}
 use Rattle.cells.specs.Areas.{Tabled}
 use Rattle.lookaheads.specs.LooksBack.{LooksBack}
