@@ -149,9 +149,6 @@ module _ (c : List ℕ) (t : List ℕ) where
 
 -- ---- the table area
 
-pub product-is : {n x y n′ x′ y′ : ℕ} → n′ ≡ n → x′ ≡ x → y′ ≡ y → n′ * (x′ + y′) ≡ n * (x + y)
-product-is e f g = rw (e, f, g)
-
 module _ (c : List ℕ) (n : ℕ) (t₁ t₂ : List ℕ) (wide : 0 < card.terminals c) (room : rowOf c n ≤ length t₁) (h : Header c n t₁ t₂) where
   -- what stands in front, by the places of the cells
   abbrev cellAt : ℕ → ℕ → ℕ

@@ -1,6 +1,6 @@
 -- The rows of a card's table: one behind the other, and 256 of them within 32,004 places.
 use Prim.Native.Nat.{ℕ, _+_, _*_, _≤_, _<_}
-use mathlib.Core.Path.{_≡_}
+use mathlib.Core.Path.{_≡_, refl}
 use mathlib.Core.List.{List}
 use native.Mathlib.Nat.{suc-mul, mul-le-mul}
 use native.Mathlib.Numerals.{add-one}
@@ -9,6 +9,11 @@ use Rattle.grammar.specs.Card.{terminals, nonterminals, productions}
 use Rattle.grammar.proofs.CardLaws.{WellFormed}
 use Rattle.tables.specs.Layout.{rowOf}
 use Rattle.tables.proofs.Places.{row-within}
+
+-- the place by numbers that stand for the card's
+pub row-is : (c : List ℕ) {q t n p s : ℕ} → t ≡ terminals c → n ≡ nonterminals c → p ≡ productions c → s ≡ q → 4 + 2 * p + s * (t + n) ≡ rowOf c q
+unfolding rowOf
+row-is c et en ep es = rw (et, en, ep, es) refl
 
 pub row-zero : (c : List ℕ) → rowOf c 0 ≡ 4 + 2 * productions c
 unfolding rowOf

@@ -1,8 +1,7 @@
 use mathlib.Core.Path.{_∙_}
 use native.Mathlib.Omega.{arith}
 use borrow.Author.Needs.{needs}
-use Rattle.tables.specs.Layout.{rowOf}
-use Rattle.cells.proofs.AreaLaws.{product-is}
+use Rattle.tables.proofs.RowLaws.{row-is}
 use Rattle.cells.proofs.row.Statement.{statement}
 use Rattle.cells.proofs.row.Tie as tie
 
@@ -37,17 +36,16 @@ wide-requires-4 : tie.Need-wide-requires-4
 wide-requires-4 c κs = search needs
 
 mul-result-2 : tie.Need-mul-result-2
-unfolding rowOf
 mul-result-2 c =
-    let b3 = c .before .before .before in
+    let b1 = c .before in
+    let b2 = b1 .before in
+    let b3 = b2 .before in
     let b4 = b3 .before in
     let b5 = b4 .before in
     let b6 = b5 .before in
-    let b8 = b6 .before .before in
-    let e = product-is (c .wide4 .ensures) (b5 .wide .ensures ∙ b6 .terminals .ensures) (b3 .wide2 .ensures ∙ b4 .nonterminals .ensures) in omega (arith, e, b8 .pre)
+    omega (arith, row-is _ (b5 .wide .ensures ∙ b6 .terminals .ensures) (b3 .wide2 .ensures ∙ b4 .nonterminals .ensures) (b1 .wide3 .ensures ∙ b2 .productions .ensures) (c .wide4 .ensures), b6 .before .before .pre)
 
 add-result-2 : tie.Need-add-result-2
-unfolding rowOf
 add-result-2 c =
     let b1 = c .before in
     let b2 = b1 .before in
@@ -55,11 +53,9 @@ add-result-2 c =
     let b4 = b3 .before in
     let b5 = b4 .before in
     let b6 = b5 .before in
-    let b8 = b6 .before .before in
-    let e = product-is (c .wide4 .ensures) (b5 .wide .ensures ∙ b6 .terminals .ensures) (b3 .wide2 .ensures ∙ b4 .nonterminals .ensures) in omega (arith, e, b8 .pre, b1 .wide3 .ensures, b2 .productions .ensures)
+    omega (arith, row-is _ (b5 .wide .ensures ∙ b6 .terminals .ensures) (b3 .wide2 .ensures ∙ b4 .nonterminals .ensures) (b1 .wide3 .ensures ∙ b2 .productions .ensures) (c .wide4 .ensures), b6 .before .before .pre)
 
 returns : tie.Need-returns
-unfolding rowOf
 returns c =
     let b1 = c .before in
     let b2 = b1 .before in
@@ -67,7 +63,7 @@ returns c =
     let b4 = b3 .before in
     let b5 = b4 .before in
     let b6 = b5 .before in
-    let e = product-is (c .wide4 .ensures) (b5 .wide .ensures ∙ b6 .terminals .ensures) (b3 .wide2 .ensures ∙ b4 .nonterminals .ensures) in omega (arith, e, b1 .wide3 .ensures, b2 .productions .ensures)
+    row-is _ (b5 .wide .ensures ∙ b6 .terminals .ensures) (b3 .wide2 .ensures ∙ b4 .nonterminals .ensures) (b1 .wide3 .ensures ∙ b2 .productions .ensures) (c .wide4 .ensures)
 
 pub row-spec : {M : Type 1} → statement M
 row-spec =

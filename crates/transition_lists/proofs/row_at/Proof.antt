@@ -1,6 +1,8 @@
 use mathlib.Core.Path.{_∙_}
 use native.Mathlib.Omega.{arith}
-use Rattle.transition_lists.proofs.PassLaws.{row-fits, row-place}
+use denote.Ref.{now}
+use Rattle.grammar.proofs.CardLaws.{well-formed}
+use Rattle.tables.proofs.RowLaws.{row-is, row-most}
 use borrow.Author.Needs.{needs}
 use Rattle.transition_lists.proofs.row_at.Statement.{statement}
 use Rattle.transition_lists.proofs.row_at.Tie as tie
@@ -43,7 +45,11 @@ mul-result-2 c =
     let wide = c .before .before .before .before .before .wide in
     let nonterminals′ = c .before .before .before .before .nonterminals in
     let wide2 = c .before .before .before .wide2 in
-    let b = row-fits _ (args .q) _ _ _ (pre .0) (pre .1) (wide .ensures ∙ terminals′ .ensures) (wide2 .ensures ∙ nonterminals′ .ensures) (c .wide32 .ensures) in omega arith
+    let productions′ = c .before .before .productions in
+    let wide3 = c .before .wide3 in
+    let e = row-is _ (wide .ensures ∙ terminals′ .ensures) (wide2 .ensures ∙ nonterminals′ .ensures) (wide3 .ensures ∙ productions′ .ensures) (c .wide32 .ensures) in
+    let m = row-most _ (well-formed (now (args .c)) (pre .0)) (args .q) 255 (omega (arith, pre .1)) in
+    omega arith
 
 add-result-2 : tie.Need-add-result-2
 add-result-2 c =
@@ -53,7 +59,11 @@ add-result-2 c =
     let wide = c .before .before .before .before .before .wide in
     let nonterminals′ = c .before .before .before .before .nonterminals in
     let wide2 = c .before .before .before .wide2 in
-    let b = row-fits _ (args .q) _ _ _ (pre .0) (pre .1) (wide .ensures ∙ terminals′ .ensures) (wide2 .ensures ∙ nonterminals′ .ensures) (c .wide32 .ensures) in omega arith
+    let productions′ = c .before .before .productions in
+    let wide3 = c .before .wide3 in
+    let e = row-is _ (wide .ensures ∙ terminals′ .ensures) (wide2 .ensures ∙ nonterminals′ .ensures) (wide3 .ensures ∙ productions′ .ensures) (c .wide32 .ensures) in
+    let m = row-most _ (well-formed (now (args .c)) (pre .0)) (args .q) 255 (omega (arith, pre .1)) in
+    omega arith
 
 returns : tie.Need-returns
 returns c =
@@ -65,7 +75,9 @@ returns c =
     let wide2 = c .before .before .before .wide2 in
     let productions′ = c .before .before .productions in
     let wide3 = c .before .wide3 in
-    row-place _ (args .q) _ _ _ _ (pre .0) (pre .1) (wide .ensures ∙ terminals′ .ensures) (wide2 .ensures ∙ nonterminals′ .ensures) (wide3 .ensures ∙ productions′ .ensures) (c .wide32 .ensures)
+    let e = row-is _ (wide .ensures ∙ terminals′ .ensures) (wide2 .ensures ∙ nonterminals′ .ensures) (wide3 .ensures ∙ productions′ .ensures) (c .wide32 .ensures) in
+    let m = row-most _ (well-formed (now (args .c)) (pre .0)) (args .q) 255 (omega (arith, pre .1)) in
+    (e, omega arith)
 
 pub row-at-spec : {M : Type 1} → statement M
 row-at-spec =
