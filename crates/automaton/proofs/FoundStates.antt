@@ -1,4 +1,4 @@
--- The states that crate `states` leaves are the numbered states of the definition, or the definition has more than 256. Assumes nothing.
+-- The states that crate `states` leaves are the numbered states of the definition, or the definition has more than 256.
 use mathlib.Core.Bool.{_&&_, cond}
 use mathlib.Core.List.{List, [], _∷_, _++_}
 use mathlib.Core.Logic.{⊎-elim, _↔_, _≢_}
@@ -16,7 +16,6 @@ use Rattle.closures.specs.Areas.{slot}
 use Rattle.grammar.proofs.CardLaws.{WellFormed, formed}
 use Rattle.grammar.specs.Card.{terminals, nonterminals, productions, leftOf, rightOf, grammarOf}
 use Rattle.lr.proofs.ItemLaws.{AllProductive}
-use Rattle.lr.specs.Items.{start}
 use Rattle.sets.proofs.HasLaws.{lt-or-ge}
 use Rattle.sets.proofs.ListLaws.{each-same}
 use Rattle.sets.specs.Lists.{each}
@@ -26,9 +25,10 @@ use Rattle.lr.specs.Items
 use Rattle.lr.specs.States.{Given, Taken, rowOf as cellsOf, States, MoreStates}
 use Rattle.lr.proofs.Automaton.{Automaton, CoreClosure, given, opened, CoreStart, core-start, CoreAdvanced, advanced, Goes as GoesOn, goes}
 use Rattle.lr.proofs.Paths.{closure-items, moved-item, items-behind, items-first}
-use Rattle.lr.proofs.Unique.{First, first-of}
-use Rattle.closures.specs.Sets.{Closed, Advanced, Stays, Goes, Start, Alike}
-use Rattle.states.specs.States.{rowOf, transition, Cell, vacant, leads, Apart, Row, Crowd, Table, Stated, finished, beyond, Built}
+use Rattle.lr.proofs.Unique.{first-of}
+use Rattle.closures.specs.Sets.{Goes, Start, Alike}
+use Rattle.tables.specs.Layout.{rowOf}
+use Rattle.states.specs.States.{transition, Cell, vacant, leads, Apart, Crowd, Table}
 
 module _ (c : List ℕ) (f : WellFormed c) where
   -- a set that is entered is not the first: the added production's first item is in no set that a transition enters

@@ -1,4 +1,4 @@
--- Item numbers as productions and dots: a set of numbers as a set of items of the grammar, its closure and its transitions. Assumes nothing.
+-- Item numbers as productions and dots: a set of numbers as a set of items of the grammar, its closure and its transitions.
 use mathlib.Core.Bool.{Bool, true, false}
 use mathlib.Core.List.{List, [], _∷_}
 use mathlib.Core.Logic.{_⊎_, inl, inr, ⊎-elim, _↔_}

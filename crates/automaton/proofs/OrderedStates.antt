@@ -1,19 +1,19 @@
--- An automaton whose states are numbered in the paper's order is the numbered states of the definition. Assumes nothing.
+-- An automaton whose states are numbered in the paper's order is the numbered states of the definition.
 use mathlib.Core.List.{List, [], _∷_, _++_}
 use mathlib.Core.Logic.{_≢_}
 use mathlib.Core.Path.{_≡_, refl, sym, ap, _∙_}
-use Prim.Native.Nat.{ℕ, zero, suc, _<_}
+use Prim.Native.Nat.{ℕ, zero, suc, _+_, _<_}
 use native.Mathlib.Decide.{ℕ-discrete}
 use native.Mathlib.Omega.{arith}
 use Rattle.grammar.specs.Grammar.{Grammar, Formed}
 use Rattle.lr.proofs.ItemLaws.{AllProductive}
 use Rattle.sets.specs.Bit.{count}
 use Rattle.lr.specs.Items
-use Rattle.lr.specs.States.{Given, Taken, rowOf as cellsOf, States, MoreStates}
-use Rattle.lr.proofs.Automaton.{Automaton, CoreClosure, given, opened, CoreStart, core-start, CoreAdvanced, advanced, Goes as GoesOn, goes, walk, walk-snoc, has-of, item-of, same-state, same-core, viable-below, item-has, has-item}
+use Rattle.lr.specs.States.{Taken, rowOf as cellsOf, States}
+use Rattle.lr.proofs.Automaton.{Automaton, CoreClosure, given, opened, CoreAdvanced, advanced, goes, walk, walk-snoc, has-of, same-state, same-core, viable-below}
 use Rattle.lr.proofs.RelationLaws.{went, after-viable}
 use Rattle.lr.proofs.Paths.{items-behind}
-use Rattle.lr.proofs.Unique.{First, first-of}
+use Rattle.lr.proofs.Unique.{first-of}
 
 module _ (g : Grammar) (f : Formed g) (pr : AllProductive g) (count : ℕ) (has : ℕ → ℕ → ℕ → Type 0) (next : ℕ → ℕ → ℕ) (au : Automaton g count has next) (order : Taken (cellsOf g next) count count) where
   -- a path to a state

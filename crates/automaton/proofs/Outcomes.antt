@@ -1,4 +1,4 @@
--- The answer of crate `states`, and that of crate `nonterminals`, in the words of the definition. Assumes nothing.
+-- The answer of crate `states`, and that of crate `nonterminals`, in the words of the definition.
 use mathlib.Core.List.{List}
 use mathlib.Core.Path.{_≡_}
 use Prim.Native.Nat.{ℕ, _+_, _≤_}

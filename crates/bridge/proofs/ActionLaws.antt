@@ -11,10 +11,10 @@ use Rattle.grammar.specs.Card.{terminals, productions, rightOf, grammarOf}
 use Rattle.grammar.proofs.CardLaws.{well-formed, right-added}
 use Rattle.lr.specs.Items
 use Rattle.lr.specs.Items.{walk, Lookahead}
-use Rattle.lr.specs.Cells
 use Rattle.lr.specs.Cells.{Action, Cell}
 use Rattle.lr.proofs.ItemLaws.{Origin, added, inner, origin, added-end}
-use Rattle.cells.specs.Actions.{Act, Single, Before, lower-state, lower-terminal, Conflict, IsCell}
+use Rattle.tables.specs.Conflicts.{Single, Conflict}
+use Rattle.cells.specs.Actions.{Act, IsCell}
 use Rattle.bridge.specs.Actions.{Acts}
 use Rattle.bridge.specs.Premises.{Stated, Followed}
 use Rattle.bridge.proofs.Numbering.{numbered}
@@ -70,7 +70,7 @@ module _ {c : List ℕ} {n : ℕ} {next : ℕ → ℕ → ℕ} (s : Stated c n n
   -- the one action, or 0 where there is none, is what the cell holds
   pub cell-of : (q m v : ℕ) → m < terminals c → IsCell (Action (grammarOf c) next q m) v → Cell (grammarOf c) n next q m v
   cell-of q m v hm o = record {
-    only = record { only = λ {v = x} {w = y} a b. o .only x a ∙ sym (o .only y b) };
+    only = record { only = λ x y a b. o .only x a ∙ sym (o .only y b) };
     shift = λ t l k. (
       λ e. sym (low-shifts (o .some (λ z. omega arith)) (omega (arith, s .most))) ∙ e,
       λ e. sym (o .only (next q m) (Action.shifts hm (λ z. omega arith))) ∙ e,
@@ -102,21 +102,19 @@ module _ {c w : List ℕ} {n k e : ℕ} {next : ℕ → ℕ → ℕ} {z : List �
   pub cell-is : (q m v : ℕ) → m < terminals c → IsCell (Acts c w z k next q m) v → Cell (grammarOf c) n next q m v
   cell-is q m v hm o = cell-of (h .stated) q m v hm (record { some = λ nz. to (o .some nz); only = λ u a. o .only u (from a) })
 
-  pub single-is : (q m : ℕ) → Single (Acts c w z k next q m) → Cells.Single (grammarOf c) next q m
-  single-is q m l = record { only = λ {v = x} {w = y} a b. l .only x y (from a) (from b) }
+  pub single-is : (q m : ℕ) → Single (Acts c w z k next q m) → Single (Action (grammarOf c) next q m)
+  single-is q m l = record { only = λ x y a b. l .only x y (from a) (from b) }
 
   -- refusal 13
-  pub conflict-is : (q m u v : ℕ) → Conflict (Acts c w z k next) n (terminals c) q m u v → Cells.Conflict (grammarOf c) n next q m u v
+  pub conflict-is : (q m u v : ℕ) → Conflict (Acts c w z k next) n (terminals c) q m u v → Conflict (Action (grammarOf c) next) n (terminals c) q m u v
   conflict-is q m u v x = record {
     state = x .state;
     terminal = x .terminal;
-    first = to (x .numbers .first);
-    second = to (x .numbers .second);
-    lower = x .numbers .lower;
-    lowest = λ {u = y} a ne. x .numbers .lowest y (from a) ne;
-    before = λ {q′ = p} {m′ = a} hp ha b. single-is p a (x .before p a hp ha (earlier b));
+    numbers = record {
+      first = to (x .numbers .first);
+      second = to (x .numbers .second);
+      lower = x .numbers .lower;
+      lowest = λ y a ne. x .numbers .lowest y (from a) ne;
+    };
+    before = λ p a hp ha b. single-is p a (x .before p a hp ha b);
   }
-    where
-      earlier : {p a : ℕ} → Cells.Before (grammarOf c) q m p a → Before q m p a
-      earlier (Cells.lower-state l) = lower-state l
-      earlier (Cells.lower-terminal o l) = lower-terminal o l

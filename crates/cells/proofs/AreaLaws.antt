@@ -10,11 +10,11 @@ use lib.Seq.{length-take-le, drop-cons, set-at, getD-take, getD-drop, getD-set-s
 use lib.Arith.{digits-lt}
 use Rattle.sets.proofs.HasLaws.{lt-or-ge}
 use Rattle.grammar.specs.Card as card
-use Rattle.tables.specs.Layout.{states, terminals, nonterminals, productions, width, leftOf, lengthOf, cellOf, sizeOf, build}
+use Rattle.tables.specs.Layout.{states, terminals, nonterminals, productions, width, leftOf, lengthOf, rowOf, cellOf, sizeOf, build}
 use Rattle.tables.proofs.LayoutLaws.{one-list, built-sizes, built-left, built-length, built-cell, built-long}
 use Rattle.cells.specs.Actions.{IsCell}
 use Rattle.sets.specs.Lists.{covered}
-use Rattle.cells.specs.Areas.{rowFor, tableArea, Arrays, Header, Tabled}
+use Rattle.cells.specs.Areas.{tableArea, Arrays, Header, Tabled}
 
 -- ---- zeros
 
@@ -149,37 +149,34 @@ module _ (c : List ℕ) (t : List ℕ) where
 
 -- ---- the table area
 
-pub product-is : {n x y n′ x′ y′ : ℕ} → n′ ≡ n → x′ ≡ x → y′ ≡ y → n′ * (x′ + y′) ≡ n * (x + y)
-product-is e f g = rw (e, f, g)
-
-module _ (c : List ℕ) (n : ℕ) (t₁ t₂ : List ℕ) (wide : 0 < card.terminals c) (room : rowFor c n ≤ length t₁) (h : Header c n t₁ t₂) where
+module _ (c : List ℕ) (n : ℕ) (t₁ t₂ : List ℕ) (wide : 0 < card.terminals c) (room : rowOf c n ≤ length t₁) (h : Header c n t₁ t₂) where
   -- what stands in front, by the places of the cells
   abbrev cellAt : ℕ → ℕ → ℕ
-  cellAt q x = getD t₁ (rowFor c q + x) 0
+  cellAt q x = getD t₁ (rowOf c q + x) 0
 
   abbrev front : List ℕ
-  front = take (rowFor c n) t₂
+  front = take (rowOf c n) t₂
 
   abbrev whole : List ℕ
   whole = build n (card.terminals c) (card.nonterminals c) (card.productions c) (card.leftOf c) (card.lengthOf c) cellAt
 
-  at-front : (i : ℕ) → i < rowFor c n → getD front i 0 ≡ getD t₂ i 0
-  at-front i g = getD-take (rowFor c n) t₂ i 0 g
+  at-front : (i : ℕ) → i < rowOf c n → getD front i 0 ≡ getD t₂ i 0
+  at-front i g = getD-take (rowOf c n) t₂ i 0 g
 
   front-states : states front ≡ n
-  unfolding states
+  unfolding rowOf states
   front-states = at-front 0 (omega arith) ∙ h .count
 
   front-terminals : terminals front ≡ card.terminals c
-  unfolding terminals
+  unfolding rowOf terminals
   front-terminals = at-front 1 (omega arith) ∙ h .sizes .0
 
   front-nonterminals : nonterminals front ≡ card.nonterminals c
-  unfolding nonterminals
+  unfolding rowOf nonterminals
   front-nonterminals = at-front 2 (omega arith) ∙ h .sizes .1
 
   front-productions : productions front ≡ card.productions c
-  unfolding productions
+  unfolding rowOf productions
   front-productions = at-front 3 (omega arith) ∙ h .sizes .2
 
   front-width : width front ≡ card.terminals c + card.nonterminals c
@@ -187,17 +184,17 @@ module _ (c : List ℕ) (n : ℕ) (t₁ t₂ : List ℕ) (wide : 0 < card.termin
   front-width = rw (front-terminals, front-nonterminals)
 
   front-long : length front ≡ sizeOf front
-  unfolding sizeOf
-  front-long = length-take-le (rowFor c n) t₂ (omega (arith, h .long)) ∙ rw (front-states, front-width, front-productions)
+  unfolding rowOf sizeOf
+  front-long = length-take-le (rowOf c n) t₂ (omega (arith, h .long)) ∙ rw (front-states, front-width, front-productions)
 
   front-left : (r : ℕ) → r < productions front → leftOf front r ≡ leftOf whole r
-  unfolding leftOf
+  unfolding rowOf leftOf
   front-left r g =
       let g′ : r < card.productions c = rw front-productions at g in
       at-front (4 + r) (omega arith) ∙ h .lefts r g′ ∙ sym (built-left n (card.terminals c) (card.nonterminals c) (card.productions c) (card.leftOf c) (card.lengthOf c) cellAt r g′)
 
   length-front : (r : ℕ) → r < card.productions c → lengthOf front r ≡ lengthOf t₂ r
-  unfolding lengthOf
+  unfolding rowOf lengthOf
   length-front r g =
       let e : productions t₂ ≡ card.productions c = h .sizes .2 in
       rw (front-productions, e) (at-front (4 + card.productions c + r) (omega arith))
@@ -208,7 +205,7 @@ module _ (c : List ℕ) (n : ℕ) (t₁ t₂ : List ℕ) (wide : 0 < card.termin
       length-front r g′ ∙ h .lengths r g′ ∙ sym (built-length n (card.terminals c) (card.nonterminals c) (card.productions c) (card.leftOf c) (card.lengthOf c) cellAt r g′)
 
   front-cell : (q x : ℕ) → q < states front → x < width front → cellOf front q x ≡ cellOf whole q x
-  unfolding cellOf
+  unfolding rowOf cellOf
   front-cell q x g k =
       let g′ : q < n = rw front-states at g in
       let k′ : x < card.terminals c + card.nonterminals c = rw front-width at k in
@@ -223,19 +220,19 @@ module _ (c : List ℕ) (n : ℕ) (t₁ t₂ : List ℕ) (wide : 0 < card.termin
       (front-states ∙ sym (s .0)) (front-terminals ∙ sym (s .1)) (front-nonterminals ∙ sym (s .2)) (front-productions ∙ sym (s .3)) front-left front-length front-cell
 
   -- the header, then zeros behind the rows
-  pub finished : (d : ℕ) (t₃ : List ℕ) → d ≡ rowFor c n → rowFor c n ≤ 32004 → t₃ ≡ covered 32004 (take d t₂) t₂ → t₃ ≡ tableArea c n t₁
-  unfolding tableArea
+  pub finished : (d : ℕ) (t₃ : List ℕ) → d ≡ rowOf c n → rowOf c n ≤ 32004 → t₃ ≡ covered 32004 (take d t₂) t₂ → t₃ ≡ tableArea c n t₁
+  unfolding rowOf tableArea
   finished d t₃ s few e =
       e ∙ ap (λ (x : ℕ). covered 32004 (take x t₂) t₂) s ∙ ap (λ (l : List ℕ). covered 32004 l t₂) front-whole ∙ covered-same 32004 whole t₁ t₂ (h .long) (λ i g. h .behind i (omega arith))
 
 -- rows written in an area that was t₀, then header and zeros: the table
 pub tabled : (c : List ℕ) (n : ℕ) (next : ℕ → ℕ → ℕ) (A : ℕ → ℕ → ℕ → Type 0) (t₀ t₁ t₂ : List ℕ) → length t₁ ≡ length t₀ → ((i : ℕ) → 32004 ≤ i → getD t₁ i 0 ≡ getD t₀ i 0)
-    → ((q m : ℕ) → q < n → m < card.terminals c → IsCell (A q m) (getD t₁ (rowFor c q + m) 0))
-    → ((q x : ℕ) → q < n → card.terminals c ≤ x → x < card.terminals c + card.nonterminals c → getD t₁ (rowFor c q + x) 0 ≡ next q x)
+    → ((q m : ℕ) → q < n → m < card.terminals c → IsCell (A q m) (getD t₁ (rowOf c q + m) 0))
+    → ((q x : ℕ) → q < n → card.terminals c ≤ x → x < card.terminals c + card.nonterminals c → getD t₁ (rowOf c q + x) 0 ≡ next q x)
     → t₂ ≡ tableArea c n t₁ → Tabled c n next A t₀ t₂
 unfolding tableArea
 tabled c n next A t₀ t₁ t₂ long beyond actions nexts e = record {
-  cell = λ q x. getD t₁ (rowFor c q + x) 0;
+  cell = λ q x. getD t₁ (rowOf c q + x) 0;
   area = e ∙ covered-same 32004 _ t₀ t₁ long beyond;
   actions = actions;
   nexts = nexts;

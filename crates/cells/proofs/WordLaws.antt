@@ -15,7 +15,8 @@ use Rattle.sets.specs.Bit.{bit}
 use Rattle.sets.proofs.TestLaws.{and-both, and-true}
 use Rattle.sets.proofs.BitLaws.{bit-and, bit-zero, lowest-in, lowest-lt}
 use Rattle.sets.proofs.HasLaws.{lt-or-ge, has-or, or-has-l, or-has-r, has-none, cleared, clear-cases}
-use Rattle.cells.specs.Actions.{Single, Lowest, IsCell}
+use Rattle.tables.specs.Conflicts.{Single, Lowest}
+use Rattle.cells.specs.Actions.{IsCell}
 use Rattle.cells.specs.Words.{Numbers, Two, Sought, found, missing, Put, Written, kept, reduced, accepted, Row}
 
 -- ---- below r + 1, and tests

@@ -5,17 +5,13 @@ use mathlib.Core.List.{List}
 use lib.ListN.{length, getD}
 use Rattle.sets.specs.Lists.{covered}
 use Rattle.grammar.specs.Card as card
-use Rattle.tables.specs.Layout.{states, terminals, nonterminals, productions, leftOf, lengthOf, build}
+use Rattle.tables.specs.Layout.{states, terminals, nonterminals, productions, leftOf, lengthOf, rowOf, build}
 use Rattle.cells.specs.Actions.{IsCell}
-
--- where the row of state q begins in the table area of the card c, which is the size of a table of q states
-abbrev pub rowFor : List ℕ → ℕ → ℕ
-rowFor c q = 4 + 2 * card.productions c + q * (card.terminals c + card.nonterminals c)
 
 -- the table area t with the header in front of its rows, and zeros behind them
 unfoldable pub tableArea : List ℕ → ℕ → List ℕ → List ℕ
 tableArea c n t =
-    covered 32004 (build n (card.terminals c) (card.nonterminals c) (card.productions c) (card.leftOf c) (card.lengthOf c) (λ q x. getD t (rowFor c q + x) 0)) t
+    covered 32004 (build n (card.terminals c) (card.nonterminals c) (card.productions c) (card.leftOf c) (card.lengthOf c) (λ q x. getD t (rowOf c q + x) 0)) t
 
 -- the left sides and lengths of the first k productions of the card c stand behind the sizes; other places are as they were
 pub record Arrays (c : List ℕ) (k : ℕ) (t t′ : List ℕ) : Type 0 where

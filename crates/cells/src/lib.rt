@@ -6,10 +6,11 @@ ghost use Prim.Native.Nat.{ℕ, _+_, _*_, _<_, _≤_};
 ghost use lib.ListN.{length, take};
 ghost use Rattle.sets.specs.Bit.{bit};
 ghost use Rattle.grammar.specs.Card.{terminals as terminalsOf, productions as productionsOf};
-ghost use Rattle.cells.specs.Actions.{Lowest};
+ghost use Rattle.tables.specs.Conflicts.{Lowest};
 ghost use Rattle.cells.specs.Words.{Numbers, Two, Sought, Put, Row};
 ghost use Rattle.sets.specs.Lists.{covered};
-ghost use Rattle.cells.specs.Areas.{rowFor, tableArea, Arrays, Header};
+ghost use Rattle.tables.specs.Layout.{rowOf};
+ghost use Rattle.cells.specs.Areas.{tableArea, Arrays, Header};
 
 // The terminals at which two numbers of a state meet: it shifts `shifts`, production r has the lookaheads words[r], and it accepts at `accept`.
 pub fn meeting(p: usize, shifts: u64, words: [u64; 128], accept: u64) -> u64
@@ -117,8 +118,8 @@ fn header(c: &[u16], t: &mut [u16], n: u16)
 
 // Where the row of state q begins, which is the size of a table of q states.
 pub fn row(c: &[u16], q: u16) -> usize
-    requires { ⌜ rowFor (now c) q ≤ 32004 ⌝ }
-    ensures { λ r. ⌜ r ≡ rowFor (now (c .entry)) q ⌝ }
+    requires { ⌜ rowOf (now c) q ≤ 32004 ⌝ }
+    ensures { λ r. ⌜ r ≡ rowOf (now (c .entry)) q ⌝ }
 {
     let width = card::wide(card::terminals(c)) + card::wide(card::nonterminals(c));
     4 + 2 * card::wide(card::productions(c)) + card::wide(q) * width
@@ -126,7 +127,7 @@ pub fn row(c: &[u16], q: u16) -> usize
 
 // Makes a table of n rows that stand in the table area: the header in front, zeros behind.
 pub fn finish(c: &[u16], t: &mut [u16], n: u16)
-    requires { ⌜ (0 < terminalsOf (now c)) × (rowFor (now c) n ≤ 32004) × (32004 ≤ length (now t)) ⌝ }
+    requires { ⌜ (0 < terminalsOf (now c)) × (rowOf (now c) n ≤ 32004) × (32004 ≤ length (now t)) ⌝ }
     ensures { λ _. ⌜ now (t .exit) ≡ tableArea (now (c .entry)) n (now (t .entry)) ⌝ }
 {
     header(c, t, n);

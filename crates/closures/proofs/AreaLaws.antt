@@ -1,10 +1,9 @@
--- What storing leaves of an area. Assumes nothing.
+-- What storing leaves of an area.
 use mathlib.Core.List.{List}
 use mathlib.Core.Path.{_≡_, refl, _∙_}
 use Prim.Native.Nat.{ℕ, _+_, _*_, _≤_, _<_}
 use native.Mathlib.Omega.{arith}
 use lib.ListN.{length, set}
-use lib.Pow.{high, low}
 use lib.Seq.{getD-set-other, paste, length-paste}
 use Rattle.closures.specs.Areas.{Kept, Added}
 use Rattle.items.proofs.AreaLaws.{paste-low, paste-high, part-eq, part-new}

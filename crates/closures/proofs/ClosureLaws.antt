@@ -1,4 +1,4 @@
--- A walk over the items of a set, and the closure by those of the nonterminals after the dots. Assumes nothing.
+-- A walk over the items of a set, and the closure by those of the nonterminals after the dots.
 use mathlib.Core.Bool.{true, false, true≢false, false≢true}
 use mathlib.Core.List.{List}
 use mathlib.Core.Logic.{_⊎_, inl, inr, ⊎-elim}

@@ -1,4 +1,4 @@
--- The symbols after the dots, item after item. Assumes nothing.
+-- The symbols after the dots, item after item.
 use mathlib.Core.List.{List}
 use mathlib.Core.Logic.{⊎-elim}
 use mathlib.Core.Path.{_≡_, sym, ap, _∙_}

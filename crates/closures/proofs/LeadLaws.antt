@@ -1,4 +1,4 @@
--- The nonterminals that begin what a nonterminal becomes, by words; and from them the closures of the nonterminals. Assumes nothing.
+-- The nonterminals that begin what a nonterminal becomes, by words; and from them the closures of the nonterminals.
 use mathlib.Core.Bool.{Bool, true, false, _||_, false≢true}
 use mathlib.Core.List.{List}
 use mathlib.Core.Logic.{_⊎_, inl, inr, ⊎-elim}

@@ -1,4 +1,4 @@
--- The items that stand before each symbol, item after item. Assumes nothing.
+-- The items that stand before each symbol, item after item.
 use mathlib.Core.Bool.{Bool, true, false, _&&_, _||_}
 use mathlib.Core.List.{List}
 use mathlib.Core.Logic.{⊎-elim}

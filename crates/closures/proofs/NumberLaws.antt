@@ -1,4 +1,4 @@
--- The numbers of the items of a card without a fault: production and dot, one to one, and the symbol after the dot. Assumes nothing.
+-- The numbers of the items of a card without a fault: production and dot, one to one, and the symbol after the dot.
 use mathlib.Core.Bool.{Bool, true, false}
 use mathlib.Core.List.{List}
 use mathlib.Core.Logic.{⊎-elim}

@@ -1,4 +1,4 @@
--- A part of an area read after a part was stored (`lib.Seq`'s `paste`), and a set compared with a part. Assumes nothing.
+-- A part of an area read after a part was stored (`lib.Seq`'s `paste`), and a set compared with a part.
 use mathlib.Core.Bool.{true, false, false≢true}
 use mathlib.Core.List.{List, _++_}
 use mathlib.Core.Logic.{⊎-elim}

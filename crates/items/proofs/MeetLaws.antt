@@ -1,4 +1,4 @@
--- Two sets that have an item in common, word by word. Assumes nothing.
+-- Two sets that have an item in common, word by word.
 use mathlib.Core.Bool.{Bool, true, false, _&&_, true≢false, false≢true}
 use mathlib.Core.List.{List}
 use mathlib.Core.Path.{_≡_, refl, sym, ap, _∙_}

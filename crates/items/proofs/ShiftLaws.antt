@@ -1,4 +1,4 @@
--- A set shifted by one over its words: the bit that leaves a word enters the next. Assumes nothing.
+-- A set shifted by one over its words: the bit that leaves a word enters the next.
 use mathlib.Core.Bool.{Bool, true, false, not, _&&_, _||_, false≢true}
 use mathlib.Core.List.{List}
 use mathlib.Core.Logic.{⊎-elim}
@@ -8,7 +8,6 @@ use native.Mathlib.Nat.{sub-zero}
 use native.Mathlib.Numerals.{add-one}
 use native.Mathlib.Omega.{arith}
 use lib.Bits.{bitAnd, bitOr, and-le-l, and-mask}
-use lib.Count.{ones}
 use lib.Dec.{eqb}
 use lib.ListN.{length, getD, set, length-set, List·getD-eq-default}
 use lib.Pow.{pow-pos}
@@ -24,8 +23,8 @@ use Rattle.sets.specs.Bit.{bit}
 -- the lower digits stay where the upper ones are cut off
 pub bit-mod : (k s m : ℕ) → m < k → bit (s % 2 ^ k) m ≡ bit s m
 bit-mod k s m h =
-    let ones : bit (2 ^ k - 1) m ≡ true = ap (λ (x : ℕ). bit x m) (sym (sub-zero (2 ^ k - 1))) ∙ bit-not k 0 m (pow-pos k) h ∙ ap not (bit-zero m) in
-    ap (λ (x : ℕ). bit x m) (sym (and-mask s k)) ∙ bit-and s (2 ^ k - 1) m ∙ ap (λ (x : Bool). bit s m && x) ones ∙ and-true-r (bit s m)
+    let all : bit (2 ^ k - 1) m ≡ true = ap (λ (x : ℕ). bit x m) (sym (sub-zero (2 ^ k - 1))) ∙ bit-not k 0 m (pow-pos k) h ∙ ap not (bit-zero m) in
+    ap (λ (x : ℕ). bit x m) (sym (and-mask s k)) ∙ bit-and s (2 ^ k - 1) m ∙ ap (λ (x : Bool). bit s m && x) all ∙ and-true-r (bit s m)
   where
     and-true-r : (p : Bool) → (p && true) ≡ p
     and-true-r true = refl

@@ -91,7 +91,7 @@ pub fn meets(s: [u64; 11], d: &[u64], at: usize) -> bool
 }
 
 // The numbers after those that are in s and in m.
-pub fn shift(s: [u64; 11], m: [u64; 11]) -> [u64; 11]
+pub fn advance(s: [u64; 11], m: [u64; 11]) -> [u64; 11]
     ensures { λ r. ⌜ Shifted s m r ⌝ }
 {
     let mut t = [0u64; 11];

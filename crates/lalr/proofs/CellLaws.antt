@@ -11,7 +11,8 @@ use Rattle.grammar.specs.Grammar.{Grammar, Formed}
 use Rattle.lr.proofs.ItemLaws.{AllProductive}
 use Rattle.lr.proofs.Automaton.{Automaton, Lookahead}
 use Rattle.sets.specs.Lists.{each}
-use Rattle.lr.specs.Cells.{Action, shifts, reduces, accepts, Single, Conflict, Before, lower-state, lower-terminal}
+use Rattle.tables.specs.Conflicts.{Single, Conflict, Before, lower-state, lower-symbol}
+use Rattle.lr.specs.Cells.{Action, shifts, reduces, accepts}
 use Rattle.sets.specs.Bit.{bit}
 use Rattle.lalr.specs.Sets.{when}
 use Rattle.lalr.specs.Lalr
@@ -191,8 +192,8 @@ module _ (g : Grammar) (f : Formed g) (pr : AllProductive g) (rows : List (List 
             positive (suc n) h = omega arith
 
     -- one action: the cell is it; none: the cell is 0
-    pub single-of : (q a : ℕ) → a < g.terminals → Short (acts q a) → Single g next q a
-    single-of q a h s = record { only = λ {v} {w} x y. short-only s (actions-all q a v x) (actions-all q a w y) }
+    pub single-of : (q a : ℕ) → a < g.terminals → Short (acts q a) → Single (Action g next q a)
+    single-of q a h s = record { only = λ v w x y. short-only s (actions-all q a v x) (actions-all q a w y) }
 
     pub conflict-search : Search acts g.terminals 0 (length rows) (conflictOf g rows)
     conflict-search = search acts g.terminals (length rows) 0
@@ -217,22 +218,24 @@ module _ (g : Grammar) (f : Formed g) (pr : AllProductive g) (rows : List (List 
         go (met-at h k l e b d) z = absurd (let y : _≡_ {A = ℕ} 0 1 = cc in omega arith)
 
     pub conflict-found : {q m v w : ℕ} {ws : List ℕ} → q < length rows → m < g.terminals → acts q m ≡ v ∷ w ∷ ws → ((q′ m′ : ℕ) → 0 ≤ q′ → q′ < q → m′ < g.terminals → Short (acts q′ m′)) → ((m′ : ℕ) → m′ < m → Short (acts q m′))
-        → Conflict g (length rows) next q m v w
+        → Conflict (Action g next) (length rows) g.terminals q m v w
     conflict-found {q} {m} {v} {w} {ws} hq hm e c d =
         let t = two-lowest (rw e at (ascending q m hq)) in
         record {
           state = hq;
           terminal = hm;
-          first = actions-only q m v hm (rw e (List·Memᴰ·head refl));
-          second = actions-only q m w hm (rw e (List·Memᴰ·tail (List·Memᴰ·head refl)));
-          lower = t .0;
-          lowest = λ {u} a ne. t .1 u (rw e at (actions-all q m u a)) ne;
-          before = λ {q′} {m′} h k b. single-of q′ m′ k (at q′ m′ k b);
+          numbers = record {
+            first = actions-only q m v hm (rw e (List·Memᴰ·head refl));
+            second = actions-only q m w hm (rw e (List·Memᴰ·tail (List·Memᴰ·head refl)));
+            lower = t .0;
+            lowest = λ u a ne. t .1 u (rw e at (actions-all q m u a)) ne;
+          };
+          before = λ q′ m′ h k b. single-of q′ m′ k (at q′ m′ k b);
         }
       where
-        at : (q′ m′ : ℕ) → m′ < g.terminals → Before g q m q′ m′ → Short (acts q′ m′)
+        at : (q′ m′ : ℕ) → m′ < g.terminals → Before q m q′ m′ → Short (acts q′ m′)
         at q′ m′ k (lower-state l) = c q′ m′ (omega arith) l k
-        at q′ m′ k (lower-terminal e l) = rw e (d m′ l)
+        at q′ m′ k (lower-symbol e l) = rw e (d m′ l)
 
     -- the cell
     cell-mem : (l : List ℕ) → cell l ≢ 0 → List·Memᴰ (cell l) l

@@ -16,7 +16,8 @@ use Rattle.lr.proofs.Automaton.{Automaton, walk}
 use Rattle.grammar.specs.Useful.{Useful, Nonterminal}
 use Rattle.sets.specs.Lists.{each}
 use Rattle.lr.specs.States.{countTransitions, States, MoreStates, nonterminalTransitions}
-use Rattle.lr.specs.Cells.{Conflict, Single, Action, shifts, reduces, accepts, Before}
+use Rattle.tables.specs.Conflicts.{Conflict, Single, Before}
+use Rattle.lr.specs.Cells.{Action, shifts, reduces, accepts}
 use Rattle.lr.proofs.Unique.{pigeon, count-le, next-same, compare, same, one-right}
 use Rattle.grammar.specs.Card.{formFault, grammarOf}
 use Rattle.lalr.specs.Nonterminals.{uselessNonterminal}
@@ -109,47 +110,47 @@ module _ (g : Grammar) where
 
   module _ {count : ℕ} {next : ℕ → ℕ → ℕ} (st : States g count next) {count′ : ℕ} {next′ : ℕ → ℕ → ℕ} (st′ : States g count′ next′) where
     -- a cell with two actions is not before the first such cell
-    not-before : {q m v w q′ m′ v′ w′ : ℕ} → Conflict g count next q m v w → Conflict g count′ next′ q′ m′ v′ w′ → Before g q m q′ m′ → ⊥
-    not-before c d b =
+    not-before : {q m v w q′ m′ v′ w′ : ℕ} → Conflict (Action g next) count g.terminals q m v w → Conflict (Action g next′) count′ g.terminals q′ m′ v′ w′ → Before q m q′ m′ → ⊥
+    not-before {q′ = q′} {m′ = m′} {v′ = v′} {w′ = w′} c d b =
         let h = d .state in
         let e : count ≡ count′ = same-count st st′ in
-        let z = c .before (rw e (d .state)) (d .terminal) b .only (action-same st′ st h (d .first)) (action-same st′ st h (d .second)) in
-        omega (arith, d .lower)
+        let z = c .before q′ m′ (rw e (d .state)) (d .terminal) b .only v′ w′ (action-same st′ st h (d .numbers .first)) (action-same st′ st h (d .numbers .second)) in
+        omega (arith, d .numbers .lower)
 
   module _ {count : ℕ} {next : ℕ → ℕ → ℕ} (st : States g count next) {count′ : ℕ} {next′ : ℕ → ℕ → ℕ} (st′ : States g count′ next′) where
-    same-cell : {q m v w q′ m′ v′ w′ : ℕ} → Conflict g count next q m v w → Conflict g count′ next′ q′ m′ v′ w′ → (q′ ≡ q) × (m′ ≡ m)
-    same-cell {q} {m} {q′ = q′} {m′ = m′} c d = go (compare g q m q′ m′)
+    same-cell : {q m v w q′ m′ v′ w′ : ℕ} → Conflict (Action g next) count g.terminals q m v w → Conflict (Action g next′) count′ g.terminals q′ m′ v′ w′ → (q′ ≡ q) × (m′ ≡ m)
+    same-cell {q} {m} {q′ = q′} {m′ = m′} c d = go (compare q m q′ m′)
       where
-        go : Before g q m q′ m′ ⊎ (((q′ ≡ q) × (m′ ≡ m)) ⊎ Before g q′ m′ q m) → (q′ ≡ q) × (m′ ≡ m)
+        go : Before q m q′ m′ ⊎ (((q′ ≡ q) × (m′ ≡ m)) ⊎ Before q′ m′ q m) → (q′ ≡ q) × (m′ ≡ m)
         go (inl b) = absurd (not-before st st′ c d b)
         go (inr (inl e)) = e
         go (inr (inr b)) = absurd (not-before st′ st d c b)
 
-    second-le : {q m v w v′ w′ : ℕ} → Conflict g count next q m v w → Conflict g count′ next′ q m v′ w′ → v′ ≡ v → w ≤ w′
-    second-le {v = v} {w′ = w′} c d e = c .lowest (action-same st′ st (d .state) (d .second)) (λ z. (let l = d .lower in omega arith))
+    second-le : {q m v w v′ w′ : ℕ} → Conflict (Action g next) count g.terminals q m v w → Conflict (Action g next′) count′ g.terminals q m v′ w′ → v′ ≡ v → w ≤ w′
+    second-le {v = v} {w′ = w′} c d e = c .numbers .lowest w′ (action-same st′ st (d .state) (d .numbers .second)) (λ z. (let l = d .numbers .lower in omega arith))
 
-    first-le : {q m v w v′ w′ : ℕ} → Conflict g count next q m v w → Conflict g count′ next′ q m v′ w′ → v′ ≢ v → w ≤ v′
-    first-le c d ne = c .lowest (action-same st′ st (d .state) (d .first)) ne
+    first-le : {q m v w v′ w′ : ℕ} → Conflict (Action g next) count g.terminals q m v w → Conflict (Action g next′) count′ g.terminals q m v′ w′ → v′ ≢ v → w ≤ v′
+    first-le {v′ = v′} c d ne = c .numbers .lowest v′ (action-same st′ st (d .state) (d .numbers .first)) ne
 
   conflict-one : {count : ℕ} {next : ℕ → ℕ → ℕ} (st : States g count next) {count′ : ℕ} {next′ : ℕ → ℕ → ℕ} (st′ : States g count′ next′) {q m v w q′ m′ v′ w′ : ℕ}
-      → Conflict g count next q m v w → Conflict g count′ next′ q′ m′ v′ w′ → conflict q m v w ≡ conflict q′ m′ v′ w′
+      → Conflict (Action g next) count g.terminals q m v w → Conflict (Action g next′) count′ g.terminals q′ m′ v′ w′ → conflict q m v w ≡ conflict q′ m′ v′ w′
   conflict-one {count} {next} st {count′} {next′} st′ {q} {m} {v} {w} {q′} {m′} {v′} {w′} c d =
       let t = same-cell st st′ c d in
-      let d₂ : Conflict g count′ next′ q m v′ w′ = rw (t .0, t .1) at d in
+      let d₂ : Conflict (Action g next′) count′ g.terminals q m v′ w′ = rw (t .0, t .1) at d in
       let ev : v′ ≡ v = same-first d₂ (ℕ-discrete v′ v) in
       let ew : w′ ≡ w = (let a : w ≤ w′ = second-le st st′ c d₂ ev in let b : w′ ≤ w = second-le st′ st d₂ c (sym ev) in omega arith) in
       rw (t .0, t .1, ev, ew)
     where
-      same-first : Conflict g count′ next′ q m v′ w′ → Dec (v′ ≡ v) → v′ ≡ v
+      same-first : Conflict (Action g next′) count′ g.terminals q m v′ w′ → Dec (v′ ≡ v) → v′ ≡ v
       same-first d (yes e) = e
-      same-first d (no ne) = absurd (let a : w ≤ v′ = first-le st st′ c d ne in let b : w′ ≤ v = first-le st′ st d c (λ e. ne (sym e)) in omega (arith, c .lower, d .lower))
+      same-first d (no ne) = absurd (let a : w ≤ v′ = first-le st st′ c d ne in let b : w′ ≤ v = first-le st′ st d c (λ e. ne (sym e)) in omega (arith, c .numbers .lower, d .numbers .lower))
 
   -- two actions in a cell, and at most one in each
   both-ways : {count : ℕ} {next : ℕ → ℕ → ℕ} (st : States g count next) {count′ : ℕ} {next′ : ℕ → ℕ → ℕ} (st′ : States g count′ next′) {q m v w : ℕ}
-      → Conflict g count next q m v w → ((q m : ℕ) → q < count′ → m < g.terminals → Single g next′ q m) → ⊥
-  both-ways st st′ {q} {m} c s =
-      let z = s q m (rw (← same-count st st′) (c .state)) (c .terminal) .only (action-same st st′ (c .state) (c .first)) (action-same st st′ (c .state) (c .second)) in
-      omega (arith, c .lower)
+      → Conflict (Action g next) count g.terminals q m v w → ((q m : ℕ) → q < count′ → m < g.terminals → Single (Action g next′ q m)) → ⊥
+  both-ways st st′ {q} {m} {v} {w} c s =
+      let z = s q m (rw (← same-count st st′) (c .state)) (c .terminal) .only v w (action-same st st′ (c .state) (c .numbers .first)) (action-same st st′ (c .state) (c .numbers .second)) in
+      omega (arith, c .numbers .lower)
 
   same-useless : {x y : ℕ} → Nonterminal g x → (Useful g x → ⊥) → ((z : ℕ) → Nonterminal g z → z < x → Useful g z) → Nonterminal g y → (Useful g y → ⊥) → ((z : ℕ) → Nonterminal g z → z < y → Useful g z) → x ≡ y
   same-useless {x} {y} n u l n′ u′ l′ = go (decLt x y) (decLt y x)

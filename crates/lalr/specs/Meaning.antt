@@ -3,7 +3,8 @@ use Prim.Native.Nat.{ℕ, _≤_, _<_}
 use Rattle.grammar.specs.Grammar.{Grammar}
 use Rattle.grammar.specs.Useful.{Useful, Nonterminal}
 use Rattle.lr.specs.States.{States, MoreStates, nonterminalTransitions}
-use Rattle.lr.specs.Cells.{Conflict, Single}
+use Rattle.tables.specs.Conflicts.{Conflict, Single}
+use Rattle.lr.specs.Cells.{Action}
 use Rattle.lalr.specs.Generator.{Answer, made, refused, uselessAt, conflict}
 
 module _ (g : Grammar) where
@@ -22,5 +23,5 @@ module _ (g : Grammar) where
     useless : {x : ℕ} → Nonterminal g x → (Useful g x → ⊥) → ((y : ℕ) → Nonterminal g y → y < x → Useful g y) → Judged (uselessAt x)
     many : AllUseful → MoreStates g 256 → Judged (refused 11)
     wide : (count : ℕ) (next : ℕ → ℕ → ℕ) → AllUseful → States g count next → count ≤ 256 → 2048 < nonterminalTransitions g count next → Judged (refused 12)
-    clash : (count : ℕ) (next : ℕ → ℕ → ℕ) {q m v w : ℕ} → Sized count next → Conflict g count next q m v w → Judged (conflict q m v w)
-    fine : (count : ℕ) (next : ℕ → ℕ → ℕ) → Sized count next → ((q m : ℕ) → q < count → m < g.terminals → Single g next q m) → Judged made
+    clash : (count : ℕ) (next : ℕ → ℕ → ℕ) {q m v w : ℕ} → Sized count next → Conflict (Action g next) count g.terminals q m v w → Judged (conflict q m v w)
+    fine : (count : ℕ) (next : ℕ → ℕ → ℕ) → Sized count next → ((q m : ℕ) → q < count → m < g.terminals → Single (Action g next q m)) → Judged made

@@ -1,25 +1,26 @@
 -- Rows of cells: what the words of a state say of its numbers, and the rows written so far.
-use Prim.Native.Nat.{ℕ, suc, _+_, _-_, _*_, _≤_, _<_}
+use Prim.Native.Nat.{ℕ, _+_, _-_, _≤_, _<_}
 use mathlib.Core.Path.{_≡_, refl, sym, ap, ap₂, _∙_, subst}
 use mathlib.Core.Bool.{Bool, true, false, true≢false, false≢true}
 use mathlib.Core.Logic.{_↔_, _≢_, _⊎_, inl, inr, ⊎-elim}
 use mathlib.Core.List.{List, []}
 use native.Mathlib.Omega.{arith}
-use native.Mathlib.Nat.{mul-le-mul, suc-mul}
 use native.Mathlib.Decide.{ℕ-discrete}
 use lib.ListN.{length, getD}
-use lib.Arith.{digits-lt}
 use borrow.Author.Tests.{lt-ltb}
 use Rattle.sets.specs.Bit.{bit}
 use Rattle.sets.proofs.HasLaws.{lt-or-ge}
 use Rattle.grammar.specs.Card.{terminals, nonterminals, productions}
 use Rattle.grammar.proofs.CardLaws.{well-formed}
-use Rattle.transitions.specs.Next.{rowOf, nextOf, Numbered}
+use Rattle.tables.specs.Layout.{rowOf}
+use Rattle.tables.proofs.RowLaws.{row-next, row-mono, row-most}
+use Rattle.transitions.specs.Next.{nextOf, Numbered}
 use Rattle.transitions.specs.Data.{Ordered, Holds, Shifts}
-use Rattle.cells.specs.Actions.{Act, Single, Lowest, Before, lower-state, lower-terminal, Conflict, IsCell}
+use Rattle.tables.specs.Conflicts.{Single, Lowest, Before, lower-state, lower-symbol}
+use Rattle.cells.specs.Actions.{Act, IsCell}
 use Rattle.cells.specs.Words.{Numbers, Two, Written, Row}
 use Rattle.sets.specs.Lists.{covered}
-use Rattle.cells.specs.Areas.{rowFor, tableArea}
+use Rattle.cells.specs.Areas.{tableArea}
 use Rattle.cells.proofs.WordLaws.{below-suc, written-cell}
 use Rattle.cells.proofs.AreaLaws.{covered-same, tabled}
 use Rattle.lookaheads.specs.LooksBack.{LooksBack}
@@ -34,38 +35,18 @@ use Rattle.lookaheads.proofs.LookLaws.{accepts-zero, accepts-other, acc
 pub cell-at : (t : List ℕ) {b b′ x x′ : ℕ} → b ≡ b′ → x ≡ x′ → getD t (b + x) 0 ≡ getD t (b′ + x′) 0
 cell-at t e f = rw (e, f)
 
-pub row-is : (c : List ℕ) (q : ℕ) → rowFor c q ≡ rowOf c q
-unfolding rowOf
-row-is c q = refl
-
-pub row-next : (c : List ℕ) (q : ℕ) → rowOf c (q + 1) ≡ rowOf c q + (terminals c + nonterminals c)
-unfolding rowOf
-row-next c q = let e : (q + 1) * (terminals c + nonterminals c) ≡ q * (terminals c + nonterminals c) + (terminals c + nonterminals c) = omega (arith, suc-mul q (terminals c + nonterminals c)) in omega arith
-
 -- a place of a lower row
 row-below : (c : List ℕ) (p q x : ℕ) → p < q → x < terminals c + nonterminals c → rowOf c p + x < rowOf c q
-unfolding rowOf
-row-below c p q x h l = let d : p * (terminals c + nonterminals c) + x < q * (terminals c + nonterminals c) = digits-lt h l in omega arith
+row-below c p q x h l = let m = row-mono c p q h in omega arith
 
 module _ (c w : List ℕ) (k : ℕ) (o : Ordered c w k) where
   -- 256 rows fit
   pub row-fits : (q : ℕ) → q ≤ 256 → rowOf c q ≤ 32004
-  unfolding rowOf
-  row-fits q h =
-      let l = well-formed c (o .formed) .limits in
-      let a : terminals c + nonterminals c ≤ 124 = omega (arith, l .terminals-to, l .nonterminals-to) in
-      let b : q * (terminals c + nonterminals c) ≤ 256 * 124 = mul-le-mul h a in
-      omega (arith, l .productions-to)
+  row-fits q h = row-most c (well-formed c (o .formed)) q 256 h
 
   -- and the place of any word of a row
   pub row-room : (q : ℕ) → q < 256 → rowOf c q + 64 ≤ 32004
-  unfolding rowOf
-  row-room q h =
-      let l = well-formed c (o .formed) .limits in
-      let a : terminals c + nonterminals c ≤ 124 = omega (arith, l .terminals-to, l .nonterminals-to) in
-      let d : q ≤ 255 = omega arith in
-      let b : q * (terminals c + nonterminals c) ≤ 255 * 124 = mul-le-mul d a in
-      omega (arith, l .productions-to)
+  row-room q h = let m = row-most c (well-formed c (o .formed)) q 255 (omega arith) in omega arith
 
 -- the table area holds the transitions
 pub next-cell : (c t : List ℕ) (n q x : ℕ) → q < n → x < terminals c + nonterminals c → getD t (rowOf c q + x) 0 ≡ nextOf c t n q x
@@ -282,7 +263,7 @@ module _ (c t₀ w z : List ℕ) (n k : ℕ) (stage : Stage c t₀ w z n) (o : O
 
           go : (p i : ℕ) → i < terminals c → Before q m p i → Single (Stands c t₀ w z n k p i)
           go p i hi (lower-state l) = cell-single (getD t (rowOf c p + i) 0) (done .cells p i l hi)
-          go p i hi (lower-terminal e l) = subst (λ (x : ℕ). Single (Stands c t₀ w z n k x i)) (sym e) (row i hi l)
+          go p i hi (lower-symbol e l) = subst (λ (x : ℕ). Single (Stands c t₀ w z n k x i)) (sym e) (row i hi l)
 
   -- ---- the answer
 
@@ -305,13 +286,11 @@ module _ (c t₀ w z : List ℕ) (n k : ℕ) (stage : Stage c t₀ w z n) (o : O
       record { answer = subst (λ (x : ℕ). Rows c (Stands c t₀ w z n k) x t₀ t) e done; long = done .long; beyond = beyond q t h done }
 
   -- 256 rows and the header fit
-  pub size-fits : rowFor c n ≤ 32004
-  unfolding rowOf
+  pub size-fits : rowOf c n ≤ 32004
   size-fits = row-fits c w k o n (stage .numbered .most)
 
   -- the rows, then the header and the zeros
   pub outcome-free : (t t′ : List ℕ) (r : Clash) → r ≡ Free → Searched c (Stands c t₀ w z n k) n t₀ t r → t′ ≡ tableArea c n t → Outcome c (nextOf c t₀ n) (Stands c t₀ w z n k) n t₀ t′ Free
-  unfolding rowOf
   outcome-free t t′ r e s f =
       let done : Rows c (Stands c t₀ w z n k) n t₀ t = subst (Answer c (Stands c t₀ w z n k) n t₀ t) e (s .answer) in
       tabled c n (nextOf c t₀ n) (Stands c t₀ w z n k) t₀ t t′ (s .long) (s .beyond) (done .cells) (λ q x h l b. done .others q x h l b ∙ next-cell c t₀ n q x h b) f

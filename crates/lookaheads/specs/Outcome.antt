@@ -6,9 +6,11 @@ use mathlib.Core.List.{List, []}
 use lib.ListN.{length, getD}
 use Rattle.sets.specs.Bit.{bit}
 use Rattle.grammar.specs.Card as card
-use Rattle.transitions.specs.Next.{rowOf, nextOf, Numbered}
+use Rattle.tables.specs.Layout.{rowOf}
+use Rattle.transitions.specs.Next.{nextOf, Numbered}
 use Rattle.transitions.specs.Data.{Ordered, Holds, Shifts}
-use Rattle.cells.specs.Actions.{Act, Lowest, IsCell, Conflict}
+use Rattle.tables.specs.Conflicts.{Lowest, Conflict}
+use Rattle.cells.specs.Actions.{Act, IsCell}
 use Rattle.sets.specs.Lists.{covered}
 use Rattle.cells.specs.Areas.{Tabled}
 use Rattle.lookaheads.specs.LooksBack.{LooksBack}

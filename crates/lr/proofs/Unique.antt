@@ -12,7 +12,7 @@ use Rattle.lr.specs.Items
 use Rattle.lr.proofs.Automaton.{walk, walk-snoc}
 use Rattle.sets.specs.Lists.{each}
 use Rattle.lr.specs.States.{Given, done, known, new, Taken, rowOf, States}
-use Rattle.lr.specs.Cells.{Before, lower-state, lower-terminal}
+use Rattle.tables.specs.Conflicts.{Before, lower-state, lower-symbol}
 
 -- no n + 1 numbers below n are all different
 pub pigeon : (n : ℕ) (h : ℕ → ℕ) → ((i : ℕ) → i ≤ n → h i < n) → ((i j : ℕ) → i ≤ n → j ≤ n → h i ≡ h j → i ≡ j) → ⊥
@@ -96,6 +96,17 @@ each-at (suc n) f x h = go (ℕ-discrete x n) (λ k. each-at n f x k)
     go (yes e) ih = rw e (getD-at (each n (λ x. f x ∷ [])) (f n) [] 0 n len)
     go (no ne) ih = List·getD-append (each n (λ x. f x ∷ [])) (f n ∷ []) 0 x (rw len (let k : x < n = omega arith in k)) ∙ ih (omega arith)
 
+-- of two places one is before the other, or they are the same
+pub compare : (q x q₂ x₂ : ℕ) → Before q x q₂ x₂ ⊎ (((q₂ ≡ q) × (x₂ ≡ x)) ⊎ Before q₂ x₂ q x)
+compare q x q₂ x₂ = go (decLt q₂ q) (decLt q q₂) (decLt x₂ x) (decLt x x₂)
+  where
+    go : Dec (q₂ < q) → Dec (q < q₂) → Dec (x₂ < x) → Dec (x < x₂) → Before q x q₂ x₂ ⊎ (((q₂ ≡ q) × (x₂ ≡ x)) ⊎ Before q₂ x₂ q x)
+    go (yes a) b c d = inl (lower-state a)
+    go (no a) (yes b) c d = inr (inr (lower-state b))
+    go (no a) (no b) (yes c) d = inl (lower-symbol (let e : q₂ ≡ q = omega arith in e) c)
+    go (no a) (no b) (no c) (yes d) = inr (inr (lower-symbol (let e : q ≡ q₂ = omega arith in e) d))
+    go (no a) (no b) (no c) (no d) = inr (inl (omega arith, omega arith))
+
 module _ (g : Grammar) where
   -- where the number s is given: from a lower state, and every transition before it leads to a lower number
   pub record First (next : ℕ → ℕ → ℕ) (s : ℕ) : Type 0 where
@@ -104,7 +115,7 @@ module _ (g : Grammar) where
     pub lower : from < s
     pub symbol : on < g.terminals + g.nonterminals
     pub is : next from on ≡ s
-    pub before : {q x : ℕ} → x < g.terminals + g.nonterminals → Before g from on q x → next q x < s
+    pub before : {q x : ℕ} → x < g.terminals + g.nonterminals → Before from on q x → next q x < s
 
   module _ (next : ℕ → ℕ → ℕ) where
     row-at : (q x : ℕ) → x < g.terminals + g.nonterminals → getD (rowOf g next q) x 0 ≡ next q x
@@ -135,19 +146,9 @@ module _ (g : Grammar) where
             let w : a .place < g.terminals + g.nonterminals = rw (row-long i) at (a .within) in
             record { from = i; on = a .place; lower = omega arith; symbol = w; is = rw (row-at i (a .place) w) at (a .is); before = λ {q} {x} hx b. bef a q x hx b }
           where
-            bef : (a : At s (rowOf g next i)) (q x : ℕ) → x < g.terminals + g.nonterminals → Before g i (a .place) q x → next q x < s
+            bef : (a : At s (rowOf g next i)) (q x : ℕ) → x < g.terminals + g.nonterminals → Before i (a .place) q x → next q x < s
             bef a q x hx (lower-state b) = let u : next q x < j = taken-below t q x b hx in omega arith
-            bef a q x hx (lower-terminal e b) = rw e (rw (row-at i x hx) at (a .lower x b))
-
-  pub compare : (q x q₂ x₂ : ℕ) → Before g q x q₂ x₂ ⊎ (((q₂ ≡ q) × (x₂ ≡ x)) ⊎ Before g q₂ x₂ q x)
-  compare q x q₂ x₂ = go (decLt q₂ q) (decLt q q₂) (decLt x₂ x) (decLt x x₂)
-    where
-      go : Dec (q₂ < q) → Dec (q < q₂) → Dec (x₂ < x) → Dec (x < x₂) → Before g q x q₂ x₂ ⊎ (((q₂ ≡ q) × (x₂ ≡ x)) ⊎ Before g q₂ x₂ q x)
-      go (yes a) b c d = inl (lower-state a)
-      go (no a) (yes b) c d = inr (inr (lower-state b))
-      go (no a) (no b) (yes c) d = inl (lower-terminal (let e : q₂ ≡ q = omega arith in e) c)
-      go (no a) (no b) (no c) (yes d) = inr (inr (lower-terminal (let e : q ≡ q₂ = omega arith in e) d))
-      go (no a) (no b) (no c) (no d) = inr (inl (omega arith, omega arith))
+            bef a q x hx (lower-symbol e b) = rw e (rw (row-at i x hx) at (a .lower x b))
 
   -- two tables
   module _ (count : ℕ) (next : ℕ → ℕ → ℕ) (st : States g count next) (count′ : ℕ) (next′ : ℕ → ℕ → ℕ) (st′ : States g count′ next′) where
@@ -193,7 +194,7 @@ module _ (g : Grammar) where
         let k : Same s (next′ (a .from) (a .on)) = rw (a .is) at m in
         go a k (decLt (next′ (a .from) (a .on)) s) (decLt s (next′ (a .from) (a .on)))
       where
-        meet : (a : First next s) (b : First next′ s) → s < next′ (a .from) (a .on) → Before g (a .from) (a .on) (b .from) (b .on) ⊎ (((b .from ≡ a .from) × (b .on ≡ a .on)) ⊎ Before g (b .from) (b .on) (a .from) (a .on)) → ⊥
+        meet : (a : First next s) (b : First next′ s) → s < next′ (a .from) (a .on) → Before (a .from) (a .on) (b .from) (b .on) ⊎ (((b .from ≡ a .from) × (b .on ≡ a .on)) ⊎ Before (b .from) (b .on) (a .from) (a .on)) → ⊥
         meet a b l (inl e) =
             let u : next (b .from) (b .on) < s = a .before (b .symbol) e in
             let nz : next (b .from) (b .on) ≢ 0 = back (b .on) (ih (b .from) (b .lower)) (rw (b .is) (not-zero pos)) in

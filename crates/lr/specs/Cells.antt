@@ -1,11 +1,12 @@
--- The actions of a cell, the cells where two of them meet, and the table (003, 4.5). Nothing here is computed.
-use Prim.Native.Nat.{ℕ, _+_, _≤_, _<_}
+-- The actions of a cell, and the table (003, 4.5). Nothing here is computed.
+use Prim.Native.Nat.{ℕ, _+_, _<_}
 use mathlib.Core.Path.{_≡_}
 use mathlib.Core.Logic.{_↔_, _≢_}
 use mathlib.Core.List.{List}
 use lib.ListN.{length}
 use Rattle.grammar.specs.Grammar.{Grammar}
 use Rattle.tables.specs.Layout as layout
+use Rattle.tables.specs.Conflicts.{Single}
 use Rattle.lr.specs.Items.{Lookahead}
 use Rattle.lr.specs.States.{States}
 
@@ -17,28 +18,9 @@ module _ (g : Grammar) where
     reduces : (r : ℕ) → r < g.productions → Lookahead g next q r m → Action next q m (1024 + r)
     accepts : Lookahead g next q g.productions m → Action next q m 4096
 
-  -- at most one action
-  pub record Single (next : ℕ → ℕ → ℕ) (q m : ℕ) : Type 0 where
-    pub only : {v w : ℕ} → Action next q m v → Action next q m w → v ≡ w
-
-  -- (q′, m′) comes before (q, m): a lower state, or the same and a lower terminal
-  pub data Before (q m : ℕ) : ℕ → ℕ → Type 0 where
-    lower-state : {q′ m′ : ℕ} → q′ < q → Before q m q′ m′
-    lower-terminal : {q′ m′ : ℕ} → q′ ≡ q → m′ < m → Before q m q′ m′
-
-  -- refusal 13: "the lowest state and, in it, the lowest mark, then the two lowest cell values that meet, lower first"
-  pub record Conflict (count : ℕ) (next : ℕ → ℕ → ℕ) (q m v w : ℕ) : Type 0 where
-    pub state : q < count
-    pub terminal : m < g.terminals
-    pub first : Action next q m v
-    pub second : Action next q m w
-    pub lower : v < w
-    pub lowest : {u : ℕ} → Action next q m u → u ≢ v → w ≤ u
-    pub before : {q′ m′ : ℕ} → q′ < count → m′ < g.terminals → Before q m q′ m′ → Single next q′ m′
-
   -- the cell c of state q and terminal m holds the one action that is there, 0 where there is none
   pub record Cell (count : ℕ) (next : ℕ → ℕ → ℕ) (q m c : ℕ) : Type 0 where
-    pub only : Single next q m
+    pub only : Single (Action next q m)
     pub shift : (s : ℕ) → 0 < s → s < count → (c ≡ s) ↔ (next q m ≡ s)
     pub reduce : (r : ℕ) → r < g.productions → (c ≡ 1024 + r) ↔ Lookahead g next q r m
     pub accept : (c ≡ 4096) ↔ Lookahead g next q g.productions m

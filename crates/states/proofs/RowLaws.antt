@@ -1,4 +1,4 @@
--- A row of the table, cell by cell. Assumes nothing.
+-- A row of the table, cell by cell.
 use mathlib.Core.Bool.{cond}
 use mathlib.Core.List.{List, [], _∷_, _++_}
 use mathlib.Core.Logic.{⊎-elim}

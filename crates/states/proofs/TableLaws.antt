@@ -1,9 +1,9 @@
--- The table, row by row. Assumes nothing.
+-- The table, row by row.
 use mathlib.Core.List.{List, [], _∷_}
 use mathlib.Core.Logic.{⊎-elim}
 use mathlib.Core.Path.{_≡_, refl, sym, ap, _∙_}
-use Prim.Native.Nat.{ℕ, zero, suc, _+_, _*_, _≤_, _<_}
-use native.Mathlib.Nat.{suc-mul, not-suc-le-zero, le-refl, mul-le-mul-right}
+use Prim.Native.Nat.{ℕ, zero, suc, _+_, _≤_, _<_}
+use native.Mathlib.Nat.{not-suc-le-zero, le-refl}
 use native.Mathlib.Numerals.{add-one}
 use native.Mathlib.Omega.{arith}
 use lib.ListN.{length, getD, set, length-set}
@@ -19,33 +19,13 @@ use Rattle.items.specs.Item.{Put, Empty}
 use Rattle.sets.proofs.HasLaws.{lt-or-ge}
 use Rattle.sets.proofs.ListLaws.{each-same}
 use Rattle.states.proofs.RowLaws.{cell-kept}
-use Rattle.states.specs.States.{rowOf, transition, Row, Crowd, Rowed, whole, stopped, Table, Stated, finished, beyond, Built}
-use Rattle.lr.specs.States.{Given, Taken, rowOf as cellsOf}
-
-pub row-zero : (c : List ℕ) → rowOf c 0 ≡ 4 + 2 * productions c
-unfolding rowOf
-row-zero c = omega arith
-
-pub row-next : (c : List ℕ) (q : ℕ) → rowOf c (q + 1) ≡ rowOf c q + (terminals c + nonterminals c)
-unfolding rowOf
-row-next c q = rw (add-one, suc-mul q (terminals c + nonterminals c)) (omega arith)
-
-pub row-mono : (c : List ℕ) (p q : ℕ) → p < q → rowOf c p + (terminals c + nonterminals c) ≤ rowOf c q
-unfolding rowOf
-row-mono c p q h =
-    let z : suc p * (terminals c + nonterminals c) ≤ q * (terminals c + nonterminals c) = mul-le-mul-right (terminals c + nonterminals c) h in
-    let y : suc p * (terminals c + nonterminals c) ≡ p * (terminals c + nonterminals c) + (terminals c + nonterminals c) = suc-mul p (terminals c + nonterminals c) in
-    omega arith
+use Rattle.tables.specs.Layout.{rowOf}
+use Rattle.tables.proofs.RowLaws.{row-next, row-mono, row-fits}
+use Rattle.states.specs.States.{transition, Row, Crowd, Rowed, whole, stopped, Table, Stated, finished, beyond, Built}
+use Rattle.lr.specs.States.{Taken, rowOf as cellsOf}
 
 row-first : (c : List ℕ) (q : ℕ) → rowOf c 0 ≤ rowOf c q
 row-first c q = ⊎-elim (λ (v : 0 < q). let m = row-mono c 0 q v in omega arith) (λ (v : q ≤ 0). let z : q ≡ 0 = omega arith in rw z (le-refl (rowOf c 0))) (lt-or-ge 0 q)
-
-pub row-fits : (c : List ℕ) → WellFormed c → (q : ℕ) → q < 256 → rowOf c q + (terminals c + nonterminals c) ≤ 32004
-unfolding rowOf
-row-fits c f q h =
-    let z : suc q * (terminals c + nonterminals c) ≤ 256 * (terminals c + nonterminals c) = mul-le-mul-right (terminals c + nonterminals c) h in
-    let y : suc q * (terminals c + nonterminals c) ≡ q * (terminals c + nonterminals c) + (terminals c + nonterminals c) = suc-mul q (terminals c + nonterminals c) in
-    omega (arith, f .limits .productions-to, f .limits .terminals-to, f .limits .nonterminals-to)
 
 pub transition-is : (c t : List ℕ) (q x : ℕ) → x < terminals c + nonterminals c → transition c t q x ≡ getD t (rowOf c q + x) 0
 unfolding transition

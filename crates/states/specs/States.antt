@@ -3,18 +3,15 @@
 use mathlib.Core.Bool.{cond}
 use mathlib.Core.List.{List, [], _∷_}
 use mathlib.Core.Path.{_≡_}
-use Prim.Native.Nat.{ℕ, _+_, _*_, _≤_, _<_}
+use Prim.Native.Nat.{ℕ, _+_, _≤_, _<_}
 use lib.Dec.{ltb}
 use lib.ListN.{length, getD, set}
 use Rattle.closures.specs.Areas.{slot, Kept, Prepared}
 use Rattle.closures.specs.Sets.{Stays, Goes, Start, Alike}
-use Rattle.grammar.specs.Card.{terminals, nonterminals, productions, grammarOf}
+use Rattle.grammar.specs.Card.{terminals, nonterminals, grammarOf}
 use Rattle.sets.specs.Lists.{each}
+use Rattle.tables.specs.Layout.{rowOf}
 use Rattle.lr.specs.States.{Given, Taken, rowOf as cellsOf}
-
--- where the row of state q begins in a table
-unfoldable pub rowOf : List ℕ → ℕ → ℕ
-rowOf c q = 4 + 2 * productions c + q * (terminals c + nonterminals c)
 
 -- the transition of state q on symbol x in the table t, 0 for none
 unfoldable pub transition : List ℕ → List ℕ → ℕ → ℕ → ℕ

@@ -50,7 +50,7 @@ fn target(c: &[u16], z: &mut [u64], w: &[u32], n: usize, s: [u64; 11], x: usize)
     if !items::meets(s, z, at) {
         return 0;
     }
-    let core = items::shift(s, items::load(z, at));
+    let core = items::advance(s, items::load(z, at));
     let d = closures::closure(c, w, z, core);
     place(z, n, d)
 }

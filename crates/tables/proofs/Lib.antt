@@ -1,3 +1,4 @@
 pub mod LayoutLaws
 pub mod Product
 pub mod Places
+pub mod RowLaws

@@ -4,6 +4,7 @@ use Prim.Native.Nat.{ℕ, _+_, _*_}
 use mathlib.Core.List.{List, [], _∷_, _++_}
 use lib.ListN.{getD}
 use Rattle.sets.specs.Lists.{each}
+use Rattle.grammar.specs.Card as card
 
 -- the sizes: Q states, T terminals (the paper's marks), N nonterminals (names), P productions (rules)
 unfoldable pub states : List ℕ → ℕ
@@ -30,13 +31,21 @@ leftOf t r = getD t (4 + r) 0
 unfoldable pub lengthOf : List ℕ → ℕ → ℕ
 lengthOf t r = getD t (4 + productions t + r) 0
 
+-- where the row of state q begins in a table of p productions with rows of w cells, which is the size of such a table of q states
+abbrev pub rowAt : ℕ → ℕ → ℕ → ℕ
+rowAt p w q = 4 + 2 * p + q * w
+
 -- the cell of state q and symbol x
 unfoldable pub cellOf : List ℕ → ℕ → ℕ → ℕ
-cellOf t q x = getD t (4 + 2 * productions t + q * width t + x) 0
+cellOf t q x = getD t (rowAt (productions t) (width t) q + x) 0
 
 -- how many numbers the sizes ask for
 unfoldable pub sizeOf : List ℕ → ℕ
-sizeOf t = 4 + 2 * productions t + states t * width t
+sizeOf t = rowAt (productions t) (width t) (states t)
+
+-- where the row of state q begins in the table of the card c
+unfoldable pub rowOf : List ℕ → ℕ → ℕ
+rowOf c q = rowAt (card.productions c) (card.terminals c + card.nonterminals c) q
 
 -- the table with these sizes, left sides, lengths and cells
 unfoldable pub build : ℕ → ℕ → ℕ → ℕ → (ℕ → ℕ) → (ℕ → ℕ) → (ℕ → ℕ → ℕ) → List ℕ

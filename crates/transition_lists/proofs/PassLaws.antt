@@ -5,7 +5,7 @@ use mathlib.Core.Bool.{Bool, not, _&&_, false≢true}
 use mathlib.Core.Logic.{_⊎_, inl, inr, ⊎-elim, _≢_}
 use Prim.Native.Nat.{ℕ, zero, suc, _+_, _-_, _*_, _/_, _%_, _≤_, _<_}
 use native.Mathlib.Omega.{arith}
-use native.Mathlib.Nat.{eq-or-lt-of-le, mul-le-mul, zero-add}
+use native.Mathlib.Nat.{eq-or-lt-of-le, zero-add}
 use native.Mathlib.Numerals.{add-one}
 use lib.Dec.{eqb}
 use lib.ListN.{length, getD, set, length-set}
@@ -16,10 +16,10 @@ use Rattle.sets.proofs.BitLaws.{bit-zero}
 use Rattle.sets.proofs.CountLaws.{count-le}
 use Rattle.sets.proofs.HasLaws.{lt-or-ge, or-cases, or-left, or-right}
 use Rattle.sets.proofs.TestLaws.{and-both, and-true}
-use Rattle.grammar.specs.Card.{terminals, nonterminals, productions, formFault}
-use Rattle.grammar.proofs.CardLaws.{well-formed}
+use Rattle.grammar.specs.Card.{terminals, nonterminals}
 use Rattle.transitions.specs.Area.{leavesOf, nonterminalOf, entersOf, firstOf, enteringOf, precedes}
-use Rattle.transitions.specs.Next.{rowOf, nextOf, Numbered, moves, transitionCount}
+use Rattle.tables.specs.Layout.{rowOf}
+use Rattle.transitions.specs.Next.{nextOf, Numbered, moves, transitionCount}
 use Rattle.occurrences.specs.Stores.{Cleared}
 use Rattle.occurrences.proofs.StoreLaws.{eq-or}
 use Rattle.transition_lists.specs.Stores.{Noted, Celled}
@@ -45,9 +45,6 @@ before-self q x = inr (refl, omega arith)
 pub cell-is : (c t : List ℕ) (n q x : ℕ) → q < n → x < terminals c + nonterminals c → getD t (rowOf c q + x) 0 ≡ nextOf c t n q x
 unfolding nextOf
 cell-is c t n q x hq hx = rw (lt-ltb q n hq, lt-ltb x (terminals c + nonterminals c) hx)
-
-pub row-low : (c : List ℕ) (q : ℕ) → q < 256 → terminals c + nonterminals c ≤ 124 → q * (terminals c + nonterminals c) ≤ 31620
-row-low c q h g = let z : q ≤ 255 = omega arith in mul-le-mul z g
 
 -- ---- lists of transitions
 
@@ -395,20 +392,6 @@ module _ (c : List ℕ) (n : ℕ) (next : ℕ → ℕ → ℕ) (t : 1 ≤ termin
       no : (p y : ℕ) → Before p y 0 1 → next p y ≢ 0 → ⊥
       no p y (inl h) z = omega arith
       no p y (inr h) z = let a = h .1 in let b = N .low p y z in omega arith
-
--- ---- a row's place
-
-pub row-place : (c : List ℕ) (q t n p s : ℕ) → formFault c ≡ 0 → q < 256 → t ≡ terminals c → n ≡ nonterminals c → p ≡ productions c → s ≡ q → (4 + 2 * p + s * (t + n) ≡ rowOf c q) × (4 + 2 * p + s * (t + n) < 65536)
-unfolding rowOf
-row-place c q t n p s ff hq et en ep es =
-    let L = well-formed c ff .limits in
-    let b = row-low c q hq (omega (arith, L .terminals-to, L .nonterminals-to)) in
-    rw (et, en, ep, es) (refl, omega (arith, L .productions-to))
-
-pub row-fits : (c : List ℕ) (q t n s : ℕ) → formFault c ≡ 0 → q < 256 → t ≡ terminals c → n ≡ nonterminals c → s ≡ q → s * (t + n) ≤ 31620
-row-fits c q t n s ff hq et en es =
-    let L = well-formed c ff .limits in
-    rw (et, en, es) (row-low c q hq (omega (arith, L .terminals-to, L .nonterminals-to)))
 
 -- ---- the same, by the numbers that the code computes
 

@@ -1,5 +1,5 @@
 -- The transitions that stand in the table area, and what holds of those of numbered states.
-use Prim.Native.Nat.{ℕ, zero, suc, _+_, _*_, _≤_, _<_}
+use Prim.Native.Nat.{ℕ, zero, suc, _+_, _≤_, _<_}
 use mathlib.Core.Path.{_≡_}
 use mathlib.Core.Logic.{_≢_}
 use mathlib.Core.Bool.{Bool, not, cond, _&&_}
@@ -7,11 +7,8 @@ use mathlib.Core.List.{List}
 use lib.Dec.{ltb, eqb}
 use lib.ListN.{getD}
 use Rattle.sets.specs.Bit.{count}
-use Rattle.grammar.specs.Card.{terminals, nonterminals, productions}
-
--- where the row of state q begins in the table area
-unfoldable pub rowOf : List ℕ → ℕ → ℕ
-rowOf c q = 4 + 2 * productions c + q * (terminals c + nonterminals c)
+use Rattle.grammar.specs.Card.{terminals, nonterminals}
+use Rattle.tables.specs.Layout.{rowOf}
 
 -- the state to which state q, one of n, goes by the symbol x; 0 where there is none
 unfoldable pub nextOf : List ℕ → List ℕ → ℕ → ℕ → ℕ → ℕ

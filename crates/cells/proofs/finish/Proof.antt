@@ -1,10 +1,12 @@
 use native.Mathlib.Omega.{arith}
 use borrow.Author.Needs.{needs}
+use Rattle.tables.specs.Layout.{rowOf}
 use Rattle.cells.proofs.AreaLaws.{finished}
 use Rattle.cells.proofs.finish.Statement.{statement}
 use Rattle.cells.proofs.finish.Tie as tie
 
 header-requires : tie.Need-header-requires
+unfolding rowOf
 header-requires c κs = search needs
 
 row-requires : tie.Need-row-requires

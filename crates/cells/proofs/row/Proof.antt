@@ -1,7 +1,10 @@
-use mathlib.Core.Path.{_∙_}
+use Prim.Native.Nat.{_+_, _*_}
+use mathlib.Core.Path.{_≡_, _∙_}
 use native.Mathlib.Omega.{arith}
+use denote.Ref.{now}
 use borrow.Author.Needs.{needs}
-use Rattle.cells.proofs.AreaLaws.{product-is}
+use Rattle.tables.specs.Layout.{rowOf}
+use Rattle.tables.proofs.RowLaws.{row-is}
 use Rattle.cells.proofs.row.Statement.{statement}
 use Rattle.cells.proofs.row.Tie as tie
 
@@ -35,35 +38,18 @@ add-result c = search needs
 wide-requires-4 : tie.Need-wide-requires-4
 wide-requires-4 c κs = search needs
 
+-- the place by the numbers read
+place-is : (c : tie.After-wide4) → 4 + 2 * c .before .wide3 .result + c .wide4 .result * (c .before .before .before .before .before .wide .result + c .before .before .before .wide2 .result) ≡ rowOf (now (c .before .before .before .before .before .before .before .before .args .c)) (c .before .before .before .before .before .before .before .before .args .q)
+place-is c = row-is _ (c .before .before .before .before .before .wide .ensures ∙ c .before .before .before .before .before .before .terminals .ensures) (c .before .before .before .wide2 .ensures ∙ c .before .before .before .before .nonterminals .ensures) (c .before .wide3 .ensures ∙ c .before .before .productions .ensures) (c .wide4 .ensures)
+
 mul-result-2 : tie.Need-mul-result-2
-mul-result-2 c =
-    let b3 = c .before .before .before in
-    let b4 = b3 .before in
-    let b5 = b4 .before in
-    let b6 = b5 .before in
-    let b8 = b6 .before .before in
-    let e = product-is (c .wide4 .ensures) (b5 .wide .ensures ∙ b6 .terminals .ensures) (b3 .wide2 .ensures ∙ b4 .nonterminals .ensures) in omega (arith, e, b8 .pre)
+mul-result-2 c = omega (arith, place-is c, c .before .before .before .before .before .before .before .before .pre)
 
 add-result-2 : tie.Need-add-result-2
-add-result-2 c =
-    let b1 = c .before in
-    let b2 = b1 .before in
-    let b3 = b2 .before in
-    let b4 = b3 .before in
-    let b5 = b4 .before in
-    let b6 = b5 .before in
-    let b8 = b6 .before .before in
-    let e = product-is (c .wide4 .ensures) (b5 .wide .ensures ∙ b6 .terminals .ensures) (b3 .wide2 .ensures ∙ b4 .nonterminals .ensures) in omega (arith, e, b8 .pre, b1 .wide3 .ensures, b2 .productions .ensures)
+add-result-2 c = omega (arith, place-is c, c .before .before .before .before .before .before .before .before .pre)
 
 returns : tie.Need-returns
-returns c =
-    let b1 = c .before in
-    let b2 = b1 .before in
-    let b3 = b2 .before in
-    let b4 = b3 .before in
-    let b5 = b4 .before in
-    let b6 = b5 .before in
-    let e = product-is (c .wide4 .ensures) (b5 .wide .ensures ∙ b6 .terminals .ensures) (b3 .wide2 .ensures ∙ b4 .nonterminals .ensures) in omega (arith, e, b1 .wide3 .ensures, b2 .productions .ensures)
+returns c = place-is c
 
 pub row-spec : {M : Type 1} → statement M
 row-spec =

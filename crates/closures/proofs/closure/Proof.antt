@@ -44,8 +44,9 @@ shared-slice-read-x c =
 wide32-requires : tie.Need-wide32-requires Inv-loop μ-loop
 wide32-requires c κs = search needs
 
-add-load : tie.Need-add-load Inv-loop μ-loop
-add-load c =
+-- the nonterminal after the dot is one of at most 60
+nonterminal-small : (c : tie.After-wide32 Inv-loop μ-loop) → c .wide32 .result < 60
+nonterminal-small c =
     let args = c .before .before .before .before .before .before .before .before .before .before .before .args in
     let wf = well-formed (now (args .c)) (c .before .before .before .before .before .before .before .before .before .before .before .pre .0) in
     let loop = c .before .before .before .before .loop in
@@ -57,34 +58,15 @@ add-load c =
     let if1 = c .before .if1 in
     let l : getD (now (args .w)) (loop .i) 0 < terminals (now (args .c)) + nonterminals (now (args .c)) = rw (pre .2 .filled (loop .i) (loop-test .taken)) (after-most (now (args .c)) wf (loop .i)) in
     omega (arith, wf .limits .nonterminals-to, wide32-call .ensures, wider-call .ensures, terminals-call .ensures, if1 .taken)
+
+add-load : tie.Need-add-load Inv-loop μ-loop
+add-load c = omega (arith, nonterminal-small c)
 
 mul-load : tie.Need-mul-load Inv-loop μ-loop
-mul-load c =
-    let args = c .before .before .before .before .before .before .before .before .before .before .before .args in
-    let wf = well-formed (now (args .c)) (c .before .before .before .before .before .before .before .before .before .before .before .pre .0) in
-    let loop = c .before .before .before .before .loop in
-    let pre = c .before .before .before .before .before .before .before .before .before .before .before .pre in
-    let loop-test = c .before .before .before .loop-test in
-    let wide32-call = c .wide32 in
-    let wider-call = c .before .before .before .before .before .before .wider in
-    let terminals-call = c .before .before .before .before .before .before .before .terminals in
-    let if1 = c .before .if1 in
-    let l : getD (now (args .w)) (loop .i) 0 < terminals (now (args .c)) + nonterminals (now (args .c)) = rw (pre .2 .filled (loop .i) (loop-test .taken)) (after-most (now (args .c)) wf (loop .i)) in
-    omega (arith, wf .limits .nonterminals-to, wide32-call .ensures, wider-call .ensures, terminals-call .ensures, if1 .taken)
+mul-load c = omega (arith, nonterminal-small c)
 
 load-requires : tie.Need-load-requires Inv-loop μ-loop
-load-requires c κs =
-    let args = c .before .before .before .before .before .before .before .before .before .before .before .args in
-    let wf = well-formed (now (args .c)) (c .before .before .before .before .before .before .before .before .before .before .before .pre .0) in
-    let loop = c .before .before .before .before .loop in
-    let pre = c .before .before .before .before .before .before .before .before .before .before .before .pre in
-    let loop-test = c .before .before .before .loop-test in
-    let wide32-call = c .wide32 in
-    let wider-call = c .before .before .before .before .before .before .wider in
-    let terminals-call = c .before .before .before .before .before .before .before .terminals in
-    let if1 = c .before .if1 in
-    let l : getD (now (args .w)) (loop .i) 0 < terminals (now (args .c)) + nonterminals (now (args .c)) = rw (pre .2 .filled (loop .i) (loop-test .taken)) (after-most (now (args .c)) wf (loop .i)) in
-    omega (arith, wf .limits .nonterminals-to, wide32-call .ensures, wider-call .ensures, terminals-call .ensures, if1 .taken, pre .3 .room)
+load-requires c κs = omega (arith, nonterminal-small c, c .before .before .before .before .before .before .before .before .before .before .before .pre .3 .room)
 
 join-requires : tie.Need-join-requires Inv-loop μ-loop
 join-requires c κs = search needs

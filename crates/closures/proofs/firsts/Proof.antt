@@ -6,7 +6,7 @@ use denote.Ref.{now}
 use borrow.Author.Needs.{needs}
 use Rattle.closures.proofs.FillLaws.{first-after}
 use Rattle.closures.proofs.LeadLaws.{firsts-start, firsts-skip, firsts-take}
-use Rattle.closures.proofs.NumberLaws.{bounds}
+use Rattle.closures.proofs.NumberLaws.{Bounds, bounds}
 use Rattle.closures.specs.Areas.{Firsts}
 use Rattle.closures.specs.Numbers.{firstOf}
 use Rattle.grammar.proofs.CardLaws.{well-formed}
@@ -35,19 +35,17 @@ loop-holds c =
     let empty-call = c .empty in
     (firsts-start _ _ _ (empty-call .ensures), refl, zero-le)
 
+-- inside the loop: the bounds of the production
+bounded : (c : tie.In-loop Inv-loop μ-loop) → Bounds (now (c .before .before .before .before .before .before .args .c)) (c .before .loop .r)
+bounded c =
+    let start = c .before .before .before .before .before .before in
+    bounds (now (start .args .c)) (well-formed (now (start .args .c)) (start .pre)) (c .before .loop .r) (omega (arith, c .before .before .before .productions .ensures))
+
 left-requires : tie.Need-left-requires Inv-loop μ-loop
 left-requires c κs = search needs
 
 sub-wider : tie.Need-sub-wider Inv-loop μ-loop
-sub-wider c =
-    let args = c .before .before .before .before .before .before .before .args in
-    let wf = well-formed (now (args .c)) (c .before .before .before .before .before .before .before .pre) in
-    let loop = c .before .before .loop in
-    let productions-call = c .before .before .before .before .productions in
-    let left-call = c .left in
-    let terminals-call = c .before .before .before .before .before .terminals in
-    let b = bounds (now (args .c)) wf (loop .r) (omega (arith, productions-call .ensures)) in
-    omega (arith, left-call .ensures, terminals-call .ensures)
+sub-wider c = let b = bounded (c .before) in omega (arith, c .left .ensures, c .before .before .before .before .before .terminals .ensures)
 
 wider-requires : tie.Need-wider-requires Inv-loop μ-loop
 wider-requires c κs = search needs
@@ -56,13 +54,7 @@ has-requires : tie.Need-has-requires Inv-loop μ-loop
 has-requires c κs = search needs
 
 with-requires : tie.Need-with-requires Inv-loop μ-loop
-with-requires c κs =
-    let args = c .before .before .before .before .before .before .before .before .before .before .args in
-    let wf = well-formed (now (args .c)) (c .before .before .before .before .before .before .before .before .before .before .pre) in
-    let loop = c .before .before .before .before .before .loop in
-    let productions-call = c .before .before .before .before .before .before .before .productions in
-    let b = bounds (now (args .c)) wf (loop .r) (omega (arith, productions-call .ensures)) in
-    omega arith
+with-requires c κs = let b = bounded (c .before .before .before .before) in omega arith
 
 length-requires : tie.Need-length-requires Inv-loop μ-loop
 length-requires c κs = search needs
@@ -71,26 +63,10 @@ wide-requires : tie.Need-wide-requires Inv-loop μ-loop
 wide-requires c κs = search needs
 
 add-f : tie.Need-add-f Inv-loop μ-loop
-add-f c =
-    let args = c .before .before .before .before .before .before .before .before .before .before .before .before .args in
-    let wf = well-formed (now (args .c)) (c .before .before .before .before .before .before .before .before .before .before .before .before .pre) in
-    let loop = c .before .before .before .before .before .before .before .loop in
-    let productions-call = c .before .before .before .before .before .before .before .before .before .productions in
-    let wide-call = c .wide in
-    let length-call = c .before .length in
-    let b = bounds (now (args .c)) wf (loop .r) (omega (arith, productions-call .ensures)) in
-    omega (arith, wide-call .ensures, length-call .ensures)
+add-f c = let b = bounded (c .before .before .before .before .before .before) in omega (arith, c .wide .ensures, c .before .length .ensures)
 
 add-f-2 : tie.Need-add-f-2 Inv-loop μ-loop
-add-f-2 c =
-    let args = c .before .before .before .before .before .before .before .before .before .before .before .before .args in
-    let wf = well-formed (now (args .c)) (c .before .before .before .before .before .before .before .before .before .before .before .before .pre) in
-    let loop = c .before .before .before .before .before .before .before .loop in
-    let productions-call = c .before .before .before .before .before .before .before .before .before .productions in
-    let wide-call = c .wide in
-    let length-call = c .before .length in
-    let b = bounds (now (args .c)) wf (loop .r) (omega (arith, productions-call .ensures)) in
-    omega (arith, wide-call .ensures, length-call .ensures)
+add-f-2 c = let b = bounded (c .before .before .before .before .before .before) in omega (arith, c .wide .ensures, c .before .length .ensures)
 
 add-r : tie.Need-add-r Inv-loop μ-loop
 add-r c = omega arith

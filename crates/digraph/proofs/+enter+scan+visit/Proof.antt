@@ -53,77 +53,39 @@ visit-at t = and 3 visit-kinds.ps (is 3 visit-kinds.ps μ-visit t) visit.Pre
 abbrev visit-below : ℕ → In 3 visit-kinds.ps
 visit-below t = and 3 visit-kinds.ps (falls 3 visit-kinds.ps _<_ μ-visit t) visit.Pre
 
-enter-push-requires : (t : ℕ) → enter-lts.Need-push-requires (
-  push-reads.Asked,
-  push-reads.Learnt,
-  scan-below t,
-  scan.Post,
-  finish-reads.Asked,
-  finish-reads.Learnt,
-) (enter-at t) enter.Post
+-- what the calls in `enter` ask and give
+abbrev enter-calls : ℕ → enter-lts.Claims
+enter-calls t = (push-reads.Asked, push-reads.Learnt, scan-below t, scan.Post, finish-reads.Asked, finish-reads.Learnt)
+
+enter-push-requires : (t : ℕ) → enter-lts.Need-push-requires (enter-calls t) (enter-at t) enter.Post
 enter-push-requires t c κs =
     let a = c .before .before .before .before .args in
     let p = c .before .before .before .before .pre .1 in
     (p .0 .long, omega (arith, p .0 .small, p .2), omega (arith, p .0 .small, steps.fits (a .k) (a .z .now) (a .depth) (a .x) (p .0) (p .2) (p .3)))
 
-enter-add-scan : (t : ℕ) → enter-lts.Need-add-scan (
-  push-reads.Asked,
-  push-reads.Learnt,
-  scan-below t,
-  scan.Post,
-  finish-reads.Asked,
-  finish-reads.Learnt,
-) (enter-at t) enter.Post
+enter-add-scan : (t : ℕ) → enter-lts.Need-add-scan (enter-calls t) (enter-at t) enter.Post
 enter-add-scan t c =
     let a = c .before .before .before .before .before .before .before .before .args in
     let p = c .before .before .before .before .before .before .before .before .pre .1 in
     omega (arith, p .0 .small, steps.fits (a .k) (a .z .now) (a .depth) (a .x) (p .0) (p .2) (p .3))
 
-enter-scan-requires : (t : ℕ) → enter-lts.Need-scan-requires (
-  push-reads.Asked,
-  push-reads.Learnt,
-  scan-below t,
-  scan.Post,
-  finish-reads.Asked,
-  finish-reads.Learnt,
-) (enter-at t) enter.Post
+enter-scan-requires : (t : ℕ) → enter-lts.Need-scan-requires (enter-calls t) (enter-at t) enter.Post
 enter-scan-requires t c κs =
     let a = c .before .before .before .before .before .before .before .before .args in
     let p = c .before .before .before .before .before .before .before .before .pre .1 in
     let less = steps.push-less (a .k) (a .z .now) (a .depth) (a .x) (p .0) (p .2) (p .3) (c .before .before .before .push .last .0) (c .before .before .before .push .ensures) in
     (omega (arith, c .before .before .before .before .before .before .before .before .pre .0, less), (steps.push-room (a .k) (a .z .now) (a .depth) (a .x) (p .0) (p .2) (p .3) (c .before .before .before .push .last .0) (c .before .before .before .push .ensures), p .1, p .2))
 
-enter-finish-requires : (t : ℕ) → enter-lts.Need-finish-requires (
-  push-reads.Asked,
-  push-reads.Learnt,
-  scan-below t,
-  scan.Post,
-  finish-reads.Asked,
-  finish-reads.Learnt,
-) (enter-at t) enter.Post
+enter-finish-requires : (t : ℕ) → enter-lts.Need-finish-requires (enter-calls t) (enter-at t) enter.Post
 enter-finish-requires t c κs =
     let s = c .before .before .before .scan .ensures .kept in
     let r = s .room in
     (omega (arith, s .grows), omega (arith, r .deep), r .small, r .long, r .node, c .before .before .before .before .before .before .before .before .before .before .before .before .pre .1 .2)
 
-enter-same-length : (t : ℕ) → enter-lts.Need-same-length (
-  push-reads.Asked,
-  push-reads.Learnt,
-  scan-below t,
-  scan.Post,
-  finish-reads.Asked,
-  finish-reads.Learnt,
-) (enter-at t) enter.Post
+enter-same-length : (t : ℕ) → enter-lts.Need-same-length (enter-calls t) (enter-at t) enter.Post
 enter-same-length t c = c .before .before .finish .kept .0 ∙ c .before .before .before .before .before .before .scan .kept .1 .1 .1 .0 ∙ c .before .before .before .before .before .before .before .before .before .before .push .kept .0
 
-enter-returns : (t : ℕ) → enter-lts.Need-returns (
-  push-reads.Asked,
-  push-reads.Learnt,
-  scan-below t,
-  scan.Post,
-  finish-reads.Asked,
-  finish-reads.Learnt,
-) (enter-at t) enter.Post
+enter-returns : (t : ℕ) → enter-lts.Need-returns (enter-calls t) (enter-at t) enter.Post
 enter-returns t c =
     let a = c .before .before .before .before .before .before .before .before .before .before .before .before .before .before .before .args in
     let p = c .before .before .before .before .before .before .before .before .before .before .before .before .before .before .before .pre .1 in
@@ -133,50 +95,27 @@ enter-returns t c =
     steps.entered (a .k) (a .z .now) (a .depth) (a .x) (p .0) (p .2) (p .3) (c .before .before .before .before .before .before .before .before .before .before .push .last .0) (c .before .before .before .before .before .before .before .before .before .before .push .ensures)
     E (s .last .1 .1 .1 .0) (s .result) (s .ensures) (f .last .0) (f .result) (f .kept .0) (f .ensures)
 
+-- what the calls in `scan` ask and give
+abbrev scan-calls : ℕ → scan-lts.Claims
+scan-calls t = (first-edge-reads.Asked, first-edge-reads.Learnt, next-edge-reads.Asked, next-edge-reads.Learnt, visit-below t, visit.Post, join-reads.Asked, join-reads.Learnt)
+
 abbrev scan-Inv-loop : scan-lts.InvT-loop
 scan-Inv-loop kind c w z₀ k x depth d₀ cursor₀ z d cursor = (length z ≡ length z₀) × Sound kind c w k x cursor × Scanned (Edge kind c w k) k z₀ depth x z d (Left kind c w k x cursor)
 
 abbrev scan-μ-loop : scan-lts.MeasureT-loop
 scan-μ-loop kind c w z₀ k x depth d₀ cursor₀ z d cursor = room kind c w k x cursor
 
-scan-cast-first-edge : (t : ℕ) → scan-lts.Need-cast-first-edge (
-  first-edge-reads.Asked,
-  first-edge-reads.Learnt,
-  next-edge-reads.Asked,
-  next-edge-reads.Learnt,
-  visit-below t,
-  visit.Post,
-  join-reads.Asked,
-  join-reads.Learnt,
-) (scan-at t) scan.Post scan-Inv-loop scan-μ-loop
+scan-cast-first-edge : (t : ℕ) → scan-lts.Need-cast-first-edge (scan-calls t) (scan-at t) scan.Post scan-Inv-loop scan-μ-loop
 scan-cast-first-edge t c =
     let p = c .before .before .before .pre .1 in
     omega (arith, p .0 .small, p .2)
 
-scan-first-edge-requires : (t : ℕ) → scan-lts.Need-first-edge-requires (
-  first-edge-reads.Asked,
-  first-edge-reads.Learnt,
-  next-edge-reads.Asked,
-  next-edge-reads.Learnt,
-  visit-below t,
-  visit.Post,
-  join-reads.Asked,
-  join-reads.Learnt,
-) (scan-at t) scan.Post scan-Inv-loop scan-μ-loop
+scan-first-edge-requires : (t : ℕ) → scan-lts.Need-first-edge-requires (scan-calls t) (scan-at t) scan.Post scan-Inv-loop scan-μ-loop
 scan-first-edge-requires t c κs =
     let p = c .before .before .before .pre .1 in
     record { nodes = c .before .before .before .args .k; ready = p .1; below = p .2 }
 
-scan-loop-holds : (t : ℕ) → scan-lts.Need-loop-holds (
-  first-edge-reads.Asked,
-  first-edge-reads.Learnt,
-  next-edge-reads.Asked,
-  next-edge-reads.Learnt,
-  visit-below t,
-  visit.Post,
-  join-reads.Asked,
-  join-reads.Learnt,
-) (scan-at t) scan.Post scan-Inv-loop scan-μ-loop
+scan-loop-holds : (t : ℕ) → scan-lts.Need-loop-holds (scan-calls t) (scan-at t) scan.Post scan-Inv-loop scan-μ-loop
 scan-loop-holds t c =
     let a = c .before .before .before .before .args in
     let p = c .before .before .before .before .pre .1 in
@@ -186,44 +125,17 @@ scan-loop-holds t c =
     let scanned = steps.scan-first E (a .k) (a .z .now) (a .depth) (a .x) (left (c .first-edge .result)) (p .0) (f .all) in
     (refl, f .sound, scanned)
 
-scan-cast-next-edge : (t : ℕ) → scan-lts.Need-cast-next-edge (
-  first-edge-reads.Asked,
-  first-edge-reads.Learnt,
-  next-edge-reads.Asked,
-  next-edge-reads.Learnt,
-  visit-below t,
-  visit.Post,
-  join-reads.Asked,
-  join-reads.Learnt,
-) (scan-at t) scan.Post scan-Inv-loop scan-μ-loop
+scan-cast-next-edge : (t : ℕ) → scan-lts.Need-cast-next-edge (scan-calls t) (scan-at t) scan.Post scan-Inv-loop scan-μ-loop
 scan-cast-next-edge t c =
     let p = c .before .before .before .before .before .pre .1 in
     omega (arith, p .0 .small, p .2)
 
-scan-next-edge-requires : (t : ℕ) → scan-lts.Need-next-edge-requires (
-  first-edge-reads.Asked,
-  first-edge-reads.Learnt,
-  next-edge-reads.Asked,
-  next-edge-reads.Learnt,
-  visit-below t,
-  visit.Post,
-  join-reads.Asked,
-  join-reads.Learnt,
-) (scan-at t) scan.Post scan-Inv-loop scan-μ-loop
+scan-next-edge-requires : (t : ℕ) → scan-lts.Need-next-edge-requires (scan-calls t) (scan-at t) scan.Post scan-Inv-loop scan-μ-loop
 scan-next-edge-requires t c κs =
     let p = c .before .before .before .before .before .pre .1 in
     record { nodes = c .before .before .before .before .before .args .k; ready = p .1; below = p .2; sound = c .loop .inv .1 }
 
-scan-cast-y : (t : ℕ) → scan-lts.Need-cast-y (
-  first-edge-reads.Asked,
-  first-edge-reads.Learnt,
-  next-edge-reads.Asked,
-  next-edge-reads.Learnt,
-  visit-below t,
-  visit.Post,
-  join-reads.Asked,
-  join-reads.Learnt,
-) (scan-at t) scan.Post scan-Inv-loop scan-μ-loop
+scan-cast-y : (t : ℕ) → scan-lts.Need-cast-y (scan-calls t) (scan-at t) scan.Post scan-Inv-loop scan-μ-loop
 scan-cast-y t c =
     let a = c .before .before .before .before .before .before .before .before .args in
     let p = c .before .before .before .before .before .before .before .before .pre .1 in
@@ -232,16 +144,7 @@ scan-cast-y t c =
     let h = f .here (c .before .if1 .taken) in
     omega (arith, p .0 .small, h .inside)
 
-scan-visit-requires : (t : ℕ) → scan-lts.Need-visit-requires (
-  first-edge-reads.Asked,
-  first-edge-reads.Learnt,
-  next-edge-reads.Asked,
-  next-edge-reads.Learnt,
-  visit-below t,
-  visit.Post,
-  join-reads.Asked,
-  join-reads.Learnt,
-) (scan-at t) scan.Post scan-Inv-loop scan-μ-loop
+scan-visit-requires : (t : ℕ) → scan-lts.Need-visit-requires (scan-calls t) (scan-at t) scan.Post scan-Inv-loop scan-μ-loop
 scan-visit-requires t c κs =
     let a = c .before .before .before .before .before .before .before .before .before .args in
     let p = c .before .before .before .before .before .before .before .before .before .pre .1 in
@@ -253,16 +156,7 @@ scan-visit-requires t c κs =
     let fewer = steps.scan-fewer E (a .k) (a .z .now) (a .depth) (a .x) (left (l .cursor)) (l .z) (l .d) (l .inv .2) in
     (omega (arith, c .before .before .before .before .before .before .before .before .before .pre .0), (l .inv .2 .kept .room, p .1, h .inside))
 
-scan-join-requires : (t : ℕ) → scan-lts.Need-join-requires (
-  first-edge-reads.Asked,
-  first-edge-reads.Learnt,
-  next-edge-reads.Asked,
-  next-edge-reads.Learnt,
-  visit-below t,
-  visit.Post,
-  join-reads.Asked,
-  join-reads.Learnt,
-) (scan-at t) scan.Post scan-Inv-loop scan-μ-loop
+scan-join-requires : (t : ℕ) → scan-lts.Need-join-requires (scan-calls t) (scan-at t) scan.Post scan-Inv-loop scan-μ-loop
 scan-join-requires t c κs =
     let a = c .before .before .before .before .before .before .before .before .before .before .before .before .before .args in
     let p = c .before .before .before .before .before .before .before .before .before .before .before .before .before .pre .1 in
@@ -271,16 +165,7 @@ scan-join-requires t c κs =
     let h = f .here (c .before .before .before .before .before .before .if1 .taken) in
     (c .before .before .before .visit .ensures .kept .room .long, omega (arith, p .0 .small, p .2), omega (arith, p .0 .small, h .inside))
 
-scan-loop-less : (t : ℕ) → scan-lts.Need-loop-less (
-  first-edge-reads.Asked,
-  first-edge-reads.Learnt,
-  next-edge-reads.Asked,
-  next-edge-reads.Learnt,
-  visit-below t,
-  visit.Post,
-  join-reads.Asked,
-  join-reads.Learnt,
-) (scan-at t) scan.Post scan-Inv-loop scan-μ-loop
+scan-loop-less : (t : ℕ) → scan-lts.Need-loop-less (scan-calls t) (scan-at t) scan.Post scan-Inv-loop scan-μ-loop
 scan-loop-less t c =
     let a = c .before .before .before .before .before .before .before .before .before .before .before .before .before .before .before .before .before .args in
     let p = c .before .before .before .before .before .before .before .before .before .before .before .before .before .before .before .before .before .pre .1 in
@@ -288,16 +173,7 @@ scan-loop-less t c =
     let f = c .before .before .before .before .before .before .before .before .before .before .before .next-edge .ensures (a .k) (p .1) in
     f .less (c .before .before .before .before .before .before .before .before .before .before .if1 .taken)
 
-scan-loop-again : (t : ℕ) → scan-lts.Need-loop-again (
-  first-edge-reads.Asked,
-  first-edge-reads.Learnt,
-  next-edge-reads.Asked,
-  next-edge-reads.Learnt,
-  visit-below t,
-  visit.Post,
-  join-reads.Asked,
-  join-reads.Learnt,
-) (scan-at t) scan.Post scan-Inv-loop scan-μ-loop
+scan-loop-again : (t : ℕ) → scan-lts.Need-loop-again (scan-calls t) (scan-at t) scan.Post scan-Inv-loop scan-μ-loop
 scan-loop-again t c =
     let a = c .before .before .before .before .before .before .before .before .before .before .before .before .before .before .before .before .before .args in
     let p = c .before .before .before .before .before .before .before .before .before .before .before .before .before .before .before .before .before .pre .1 in
@@ -315,28 +191,10 @@ scan-loop-again t c =
     (found .node) (p .2) (h .inside) h (left (found .cursor)) (f .after more) (v .last .1 .1 .1 .0) (v .result) (v .ensures) (j .last .0) (j .ensures) in
     (j .kept .0 ∙ v .kept .1 .1 .1 .0 ∙ l .inv .0, f .sound more, scanned)
 
-scan-same-length : (t : ℕ) → scan-lts.Need-same-length (
-  first-edge-reads.Asked,
-  first-edge-reads.Learnt,
-  next-edge-reads.Asked,
-  next-edge-reads.Learnt,
-  visit-below t,
-  visit.Post,
-  join-reads.Asked,
-  join-reads.Learnt,
-) (scan-at t) scan.Post scan-Inv-loop scan-μ-loop
+scan-same-length : (t : ℕ) → scan-lts.Need-same-length (scan-calls t) (scan-at t) scan.Post scan-Inv-loop scan-μ-loop
 scan-same-length t c = c .before .before .loop .inv .0
 
-scan-returns : (t : ℕ) → scan-lts.Need-returns (
-  first-edge-reads.Asked,
-  first-edge-reads.Learnt,
-  next-edge-reads.Asked,
-  next-edge-reads.Learnt,
-  visit-below t,
-  visit.Post,
-  join-reads.Asked,
-  join-reads.Learnt,
-) (scan-at t) scan.Post scan-Inv-loop scan-μ-loop
+scan-returns : (t : ℕ) → scan-lts.Need-returns (scan-calls t) (scan-at t) scan.Post scan-Inv-loop scan-μ-loop
 scan-returns t c =
     let a = c .before .before .before .before .before .before .before .args in
     let p = c .before .before .before .before .before .before .before .pre .1 in
@@ -391,14 +249,7 @@ visit-returns-2 t c =
     steps.visit-old E (a .k) (a .z .now) (a .depth) (a .y) (p .0) (p .2) (c .if1 .left)
 
 pub +enter+scan+visit-spec : {M : Type 1} → statement M
-+enter+scan+visit-spec = close μ-enter μ-scan μ-visit (λ t. enter-lts.spec (
-  push-reads.Asked,
-  push-reads.Learnt,
-  scan-below t,
-  scan.Post,
-  finish-reads.Asked,
-  finish-reads.Learnt,
-)
++enter+scan+visit-spec = close μ-enter μ-scan μ-visit (λ t. enter-lts.spec (enter-calls t)
     (enter-at t)
     enter.Post
     (enter-push-requires t)
@@ -407,16 +258,7 @@ pub +enter+scan+visit-spec : {M : Type 1} → statement M
     (enter-finish-requires t)
     (enter-same-length t)
     (enter-returns t))
-    (λ t. scan-lts.spec (
-      first-edge-reads.Asked,
-      first-edge-reads.Learnt,
-      next-edge-reads.Asked,
-      next-edge-reads.Learnt,
-      visit-below t,
-      visit.Post,
-      join-reads.Asked,
-      join-reads.Learnt,
-    )
+    (λ t. scan-lts.spec (scan-calls t)
     (scan-at t)
     scan.Post
     scan-Inv-loop

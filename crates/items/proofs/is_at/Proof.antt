@@ -36,7 +36,8 @@ array-read-if1 : tie.Need-array-read-if1 Inv-loop μ-loop
 array-read-if1 c = search needs
 
 returns : tie.Need-returns Inv-loop μ-loop
-returns c = let args = c .before .before .before .before .args in
+returns c =
+    let args = c .before .before .before .before .args in
     let loop = c .before .before .before .loop in
     let known = c .before .shared-slice-known in
     let room : args .at + 11 ≤ length (now (args .d)) = search needs in
@@ -55,7 +56,8 @@ loop-again c =
     (search needs, below-more _ _ (loop .inv .1) (c .if1 .left))
 
 returns-2 : tie.Need-returns-2 Inv-loop μ-loop
-returns-2 c = let args = c .before .before .args in
+returns-2 c =
+    let args = c .before .before .args in
     let loop = c .before .loop in
     is-same (now (args .d)) (args .at) (args .t1) (search needs) (search needs) (λ k l. loop .inv .1 k (omega arith))
 

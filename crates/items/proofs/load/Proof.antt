@@ -1,14 +1,10 @@
 use mathlib.Core.List.{List, [], _∷_, _++_}
-use mathlib.Core.Path.{ap₂}
+use mathlib.Core.Path.{ap₂, _≡_, refl, sym, _∙_}
+use Prim.Native.Nat.{ℕ, _-_, _≤_}
 use native.Mathlib.Numerals.{add-one}
-use lib.Seq.{take-suc-set, take-suc, getD-drop, take-all}
-use lib.ListN.{length-drop}
-use mathlib.Core.Path.{_≡_, refl, sym, ap, _∙_}
-use Prim.Native.Nat.{ℕ, suc, _+_, _-_, _≤_, _<_}
 use native.Mathlib.Omega.{arith}
-use lib.ListN.{length, getD, set, take, drop, length-set}
-use lib.Seq.{paste, paste-zero, paste-suc, length-paste}
-use lib.Bits.{bitOr}
+use lib.ListN.{length-drop, length, take, drop, length-set}
+use lib.Seq.{take-suc-set, take-suc, getD-drop, take-all}
 use borrow.Author.Needs.{needs}
 use Rattle.items.proofs.load.Statement.{statement}
 use Rattle.items.proofs.load.Tie as tie

@@ -49,7 +49,8 @@ loop-again c =
     meet-more _ _ _ _ _ (loop .inv) (loop-test .taken)
 
 returns : tie.Need-returns Inv-loop μ-loop
-returns c = let args = c .before .before .args in
+returns c =
+    let args = c .before .before .args in
     let loop = c .before .loop in
     let e : loop .i ≡ 11 = omega (arith, loop .inv .most) in
     meets-of (args .t1) (now (args .d)) (args .at) (λ k. let f : Fits w64 (getD (args .t1) k 0) = search needs in f .fits) (loop .all) (loop .i) _ (loop .inv) e (record { yes = λ t. eqb-false (loop .all) 0 (not-true _ t); so = λ n. ap not (ne-eqb (loop .all) 0 n) })

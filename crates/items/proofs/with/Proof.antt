@@ -1,16 +1,13 @@
-use mathlib.Core.Path.{_≡_, ap, _∙_}
 use mathlib.Core.List.{List}
-use Prim.Native.Nat.{ℕ, _*_, _/_, _^_}
-use native.Mathlib.Nat.{mod-lt, zero-lt-suc}
-use lib.ListN.{length, getD, set}
-use lib.Bits.{bitOr}
-use Rattle.items.specs.Item.{item}
-use Rattle.items.proofs.ItemLaws.{item-put}
-use Prim.Native.Nat.{_%_}
+use mathlib.Core.Path.{_≡_, ap, _∙_}
+use Prim.Native.Nat.{ℕ, _*_, _/_, _^_, _%_}
 use native.Mathlib.Omega.{arith}
-use Rattle.sets.proofs.BitLaws.{one-shl}
-use Rattle.items.specs.Item.{put}
+use lib.Bits.{bitOr}
+use lib.ListN.{length, getD, set}
 use borrow.Author.Needs.{needs}
+use Rattle.items.proofs.ItemLaws.{item-put}
+use Rattle.items.specs.Item.{item, put}
+use Rattle.sets.proofs.BitLaws.{one-shl}
 use Rattle.items.proofs.with.Statement.{statement}
 use Rattle.items.proofs.with.Tie as tie
 

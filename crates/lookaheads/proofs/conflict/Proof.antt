@@ -1,9 +1,8 @@
 use mathlib.Core.Path.{_∙_}
 use native.Mathlib.Omega.{arith}
 use borrow.Author.Needs.{needs}
-use Rattle.transitions.specs.Next.{rowOf}
 use Rattle.lookaheads.proofs.LookLaws.{few}
-use Rattle.lookaheads.proofs.RowLaws.{cell-at, row-is, conflict-named}
+use Rattle.lookaheads.proofs.RowLaws.{cell-at, conflict-named}
 use Rattle.lookaheads.proofs.conflict.Statement.{statement}
 use Rattle.lookaheads.proofs.conflict.Tie as tie
 
@@ -20,7 +19,6 @@ words-requires : tie.Need-words-requires
 words-requires c κs = search needs
 
 row-requires : tie.Need-row-requires
-unfolding rowOf
 row-requires c κs = c .before .before .before .before .before .before .before .before .pre .3
 
 wide-requires-2 : tie.Need-wide-requires-2
@@ -29,7 +27,7 @@ wide-requires-2 c κs = search needs
 add-at : tie.Need-add-at
 add-at c =
     let b1 = c .before in
-    let e = b1 .row .ensures ∙ row-is _ _ in omega (arith, e, b1 .before .before .before .before .before .before .before .before .before .pre .3)
+    let e = b1 .row .ensures in omega (arith, e, b1 .before .before .before .before .before .before .before .before .before .pre .3)
 
 at-requires : tie.Need-at-requires
 at-requires c κs = search needs
@@ -53,7 +51,7 @@ returns c =
     let b6 = b5 .before in
     let b7 = b6 .before in
     let b8 = b7 .before in
-    λ n k next o numbered below e two. conflict-named _ _ _ n k next _ _ _ _ _ _ _ _ _ numbered below (b6 .wider .ensures) (b1 .wider2 .ensures) (b7 .wide .ensures ∙ b8 .productions .ensures) (b2 .at .ensures ∙ cell-at (b8 .before .before .before .before .before .args .t .now) (b4 .row .ensures ∙ row-is _ _) (b3 .wide2 .ensures) ∙ e) (b5 .words .ensures k o) (c .pair .ensures) two
+    λ n k next o numbered below e two. conflict-named _ _ _ n k next _ _ _ _ _ _ _ _ _ numbered below (b6 .wider .ensures) (b1 .wider2 .ensures) (b7 .wide .ensures ∙ b8 .productions .ensures) (b2 .at .ensures ∙ cell-at (b8 .before .before .before .before .before .args .t .now) (b4 .row .ensures) (b3 .wide2 .ensures) ∙ e) (b5 .words .ensures k o) (c .pair .ensures) two
 
 pub conflict-spec : {M : Type 1} → statement M
 conflict-spec =

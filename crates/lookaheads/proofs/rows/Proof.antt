@@ -3,8 +3,7 @@ use mathlib.Core.Path.{sym, _∙_, subst}
 use mathlib.Core.Logic.{⊎-elim}
 use native.Mathlib.Omega.{arith}
 use borrow.Author.Needs.{needs}
-use Rattle.lookaheads.proofs.RowLaws.{row-is, row-fits, row-room, Clear, clear-more, known, rows-none, rows-more, row-as, Crossed, crossed, searched-met, searched-free}
-use Rattle.transitions.specs.Next.{rowOf}
+use Rattle.lookaheads.proofs.RowLaws.{row-fits, row-room, Clear, clear-more, known, rows-none, rows-more, row-as, Crossed, crossed, searched-met, searched-free}
 use Rattle.transitions.specs.Data.{Ordered}
 use Rattle.lookaheads.proofs.LookLaws.{few}
 use Rattle.lookaheads.specs.Outcome.{Stands, Rows}
@@ -82,7 +81,6 @@ loop-again : tie.Need-loop-again Inv-loop μ-loop Inv-states μ-states
 loop-again c = clear-more _ _ _ _ (c .before .before .wider2 .ensures) (c .before .has .ensures) (c .if1 .left) (c .before .before .before .before .loop .inv)
 
 row-requires : tie.Need-row-requires Inv-loop μ-loop Inv-states μ-states
-unfolding rowOf
 row-requires c κs =
     let b8 = c .before .before .before .before .before .before .before .before in
     let b19 = b8 .before .before .before .before .before .before .before .before .before .before .before in
@@ -95,7 +93,7 @@ write-requires c κs =
     let b13 = b10 .before .before .before in
     let b14 = b13 .before in
     let b20 = b14 .before .before .before .before .before .before in
-    (rw (b13 .wide .ensures, b14 .productions .ensures) (few _ _ _ (b20 .pre .ordered)), let e = c .row .ensures ∙ row-is _ _ in omega (arith, e, row-room _ _ _ (b20 .pre .ordered) (b10 .states .q) (omega (arith, b9 .states-test .taken, b20 .pre .numbered .most)), b10 .states .inv .1 _ (b20 .pre .ordered) .long, b20 .pre .table-long))
+    (rw (b13 .wide .ensures, b14 .productions .ensures) (few _ _ _ (b20 .pre .ordered)), let e = c .row .ensures in omega (arith, e, row-room _ _ _ (b20 .pre .ordered) (b10 .states .q) (omega (arith, b9 .states-test .taken, b20 .pre .numbered .most)), b10 .states .inv .1 _ (b20 .pre .ordered) .long, b20 .pre .table-long))
 
 add-q : tie.Need-add-q Inv-loop μ-loop Inv-states μ-states
 add-q c = search needs
@@ -126,7 +124,7 @@ states-again c =
       λ k o.
           rows-more _ _ _ _ _ k (b23 .pre) o _ _ (b13 .states .inv .1 k o) (b12 .states-test .taken) _ _ _ _
           (known _ _ _ _ _ k (b23 .pre) o _ _ _ _ _ _ _ _ (b12 .states-test .taken) (b11 .wider .ensures) (b14 .target .ensures) many (b8 .shifts .ensures) (b10 .words .ensures k o)
-          (b9 .acceptance .ensures) (b7 .meeting .ensures)) _ _ _ _ (b3 .row .ensures ∙ row-is _ _) many (omega (arith, b5 .loop-test .left, b18 .terminals .ensures)) (b6 .loop .inv)
+          (b9 .acceptance .ensures) (b7 .meeting .ensures)) _ _ _ _ (b3 .row .ensures) many (omega (arith, b5 .loop-test .left, b18 .terminals .ensures)) (b6 .loop .inv)
           (b2 .write .ensures),
     )
 

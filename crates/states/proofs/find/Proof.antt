@@ -6,8 +6,6 @@ use native.Mathlib.Omega.{arith}
 use borrow.Author.Count.{below-more}
 use Rattle.closures.specs.Areas.{slot}
 use Rattle.closures.specs.Sets.{Alike}
-use Rattle.grammar.specs.Grammar.{none}
-use Rattle.lr.specs.Relations.{here}
 use Rattle.states.proofs.find.Statement.{statement}
 use Rattle.states.proofs.find.Tie as tie
 

@@ -4,7 +4,6 @@ use borrow.Author.Needs.{needs}
 use borrow.Author.Tests.{not-true, not-false}
 use Rattle.closures.proofs.ClosureLaws.{stays, advances, some-advanced}
 use Rattle.grammar.proofs.CardLaws.{well-formed}
-use Rattle.lr.specs.Sets.{advanced}
 use Rattle.states.specs.Places.{nowhere, goes}
 use Rattle.states.proofs.target.Statement.{statement}
 use Rattle.states.proofs.target.Tie as tie
@@ -46,8 +45,8 @@ load-requires c κs =
     let pre = c .before .before .before .before .before .before .before .pre in
     omega (arith, wf .limits .terminals-to, wf .limits .nonterminals-to, pre .3 .room)
 
-shift-requires : tie.Need-shift-requires
-shift-requires c κs = search needs
+advance-requires : tie.Need-advance-requires
+advance-requires c κs = search needs
 
 closure-requires : tie.Need-closure-requires
 closure-requires c κs = search needs
@@ -64,7 +63,7 @@ returns-2 c =
     let wf = well-formed (now (args .c)) (c .before .before .before .before .before .before .before .before .before .before .before .before .before .before .before .pre .0) in
     let meets-call = c .before .before .before .before .before .before .before .before .before .before .meets in
     let if1 = c .before .before .before .before .before .before .before .before .before .if1 in
-    let shift-call = c .before .before .before .before .before .before .shift in
+    let advance-call = c .before .before .before .before .before .before .advance in
     let pre = c .before .before .before .before .before .before .before .before .before .before .before .before .before .before .before .pre in
     let load-call = c .before .before .before .before .before .before .before .load in
     let closure-call = c .before .before .before .before .closure in
@@ -72,9 +71,9 @@ returns-2 c =
     let m = rw (not-false (meets-call .result) (if1 .left)) at (meets-call .ensures) in
     goes _ _ _
     (record {
-      core = shift-call .result;
-      advanced = advances (now (args .c)) (now (args .z)) (args .s) (args .x) wf (pre .3 .masks) (pre .5) (pre .6) _ _ (load-call .ensures) (shift-call .ensures);
-      some = some-advanced (now (args .c)) (now (args .z)) (args .s) (args .x) wf (pre .3 .masks) (pre .5) (pre .6) _ _ (load-call .ensures) (shift-call .ensures) m;
+      core = advance-call .result;
+      advanced = advances (now (args .c)) (now (args .z)) (args .s) (args .x) wf (pre .3 .masks) (pre .5) (pre .6) _ _ (load-call .ensures) (advance-call .ensures);
+      some = some-advanced (now (args .c)) (now (args .z)) (args .s) (args .x) wf (pre .3 .masks) (pre .5) (pre .6) _ _ (load-call .ensures) (advance-call .ensures) m;
       closed = closure-call .ensures;
     }) (place-call .ensures)
 
@@ -88,7 +87,7 @@ target-spec =
     same-length
     returns
     load-requires
-    shift-requires
+    advance-requires
     closure-requires
     place-requires
     same-length-2

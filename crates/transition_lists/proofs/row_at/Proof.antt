@@ -1,6 +1,10 @@
-use mathlib.Core.Path.{_∙_}
+use Prim.Native.Nat.{_+_, _*_, _≤_}
+use mathlib.Core.Path.{_≡_, _∙_}
 use native.Mathlib.Omega.{arith}
-use Rattle.transition_lists.proofs.PassLaws.{row-fits, row-place}
+use denote.Ref.{now}
+use Rattle.grammar.proofs.CardLaws.{well-formed}
+use Rattle.tables.specs.Layout.{rowOf}
+use Rattle.tables.proofs.RowLaws.{row-is, row-most}
 use borrow.Author.Needs.{needs}
 use Rattle.transition_lists.proofs.row_at.Statement.{statement}
 use Rattle.transition_lists.proofs.row_at.Tie as tie
@@ -35,37 +39,23 @@ add-result c = search needs
 wide32-requires : tie.Need-wide32-requires
 wide32-requires c κs = search needs
 
+-- the place by the numbers read, and its bound
+place-is : (c : tie.After-wide32) → 4 + 2 * c .before .wide3 .result + c .wide32 .result * (c .before .before .before .before .before .wide .result + c .before .before .before .wide2 .result) ≡ rowOf (now (c .before .before .before .before .before .before .before .before .args .c)) (c .before .before .before .before .before .before .before .before .args .q)
+place-is c = row-is _ (c .before .before .before .before .before .wide .ensures ∙ c .before .before .before .before .before .before .terminals .ensures) (c .before .before .before .wide2 .ensures ∙ c .before .before .before .before .nonterminals .ensures) (c .before .wide3 .ensures ∙ c .before .before .productions .ensures) (c .wide32 .ensures)
+
+place-small : (c : tie.After-wide32) → rowOf (now (c .before .before .before .before .before .before .before .before .args .c)) (c .before .before .before .before .before .before .before .before .args .q) ≤ 32004
+place-small c =
+    let start = c .before .before .before .before .before .before .before .before in
+    row-most _ (well-formed (now (start .args .c)) (start .pre .0)) (start .args .q) 256 (omega (arith, start .pre .1))
+
 mul-result-2 : tie.Need-mul-result-2
-mul-result-2 c =
-    let args = c .before .before .before .before .before .before .before .before .args in
-    let pre = c .before .before .before .before .before .before .before .before .pre in
-    let terminals′ = c .before .before .before .before .before .before .terminals in
-    let wide = c .before .before .before .before .before .wide in
-    let nonterminals′ = c .before .before .before .before .nonterminals in
-    let wide2 = c .before .before .before .wide2 in
-    let b = row-fits _ (args .q) _ _ _ (pre .0) (pre .1) (wide .ensures ∙ terminals′ .ensures) (wide2 .ensures ∙ nonterminals′ .ensures) (c .wide32 .ensures) in omega arith
+mul-result-2 c = omega (arith, place-is c, place-small c)
 
 add-result-2 : tie.Need-add-result-2
-add-result-2 c =
-    let args = c .before .before .before .before .before .before .before .before .args in
-    let pre = c .before .before .before .before .before .before .before .before .pre in
-    let terminals′ = c .before .before .before .before .before .before .terminals in
-    let wide = c .before .before .before .before .before .wide in
-    let nonterminals′ = c .before .before .before .before .nonterminals in
-    let wide2 = c .before .before .before .wide2 in
-    let b = row-fits _ (args .q) _ _ _ (pre .0) (pre .1) (wide .ensures ∙ terminals′ .ensures) (wide2 .ensures ∙ nonterminals′ .ensures) (c .wide32 .ensures) in omega arith
+add-result-2 c = omega (arith, place-is c, place-small c)
 
 returns : tie.Need-returns
-returns c =
-    let args = c .before .before .before .before .before .before .before .before .args in
-    let pre = c .before .before .before .before .before .before .before .before .pre in
-    let terminals′ = c .before .before .before .before .before .before .terminals in
-    let wide = c .before .before .before .before .before .wide in
-    let nonterminals′ = c .before .before .before .before .nonterminals in
-    let wide2 = c .before .before .before .wide2 in
-    let productions′ = c .before .before .productions in
-    let wide3 = c .before .wide3 in
-    row-place _ (args .q) _ _ _ _ (pre .0) (pre .1) (wide .ensures ∙ terminals′ .ensures) (wide2 .ensures ∙ nonterminals′ .ensures) (wide3 .ensures ∙ productions′ .ensures) (c .wide32 .ensures)
+returns c = (place-is c, omega (arith, place-is c, place-small c))
 
 pub row-at-spec : {M : Type 1} → statement M
 row-at-spec =

@@ -6,8 +6,8 @@ use mir.Val.{Fits}
 use lib.ListN.{getD}
 use borrow.Author.Needs.{needs}
 use Rattle.items.proofs.ShiftLaws.{Shifting, shift-start, shift-more, shifted}
-use Rattle.items.proofs.shift.Statement.{statement}
-use Rattle.items.proofs.shift.Tie as tie
+use Rattle.items.proofs.advance.Statement.{statement}
+use Rattle.items.proofs.advance.Tie as tie
 
 abbrev Inv-loop : tie.InvT-loop
 Inv-loop s m t₀ carry₀ i₀ t carry i = Shifting s m t carry i
@@ -49,13 +49,14 @@ loop-again c =
     shift-more _ _ _ _ _ (loop .inv) (loop-test .taken)
 
 returns : tie.Need-returns Inv-loop μ-loop
-returns c = let args = c .before .before .args in
+returns c =
+    let args = c .before .before .args in
     let loop = c .before .loop in
     let e : loop .i ≡ 11 = omega (arith, loop .inv .most) in
     shifted (args .t1) (args .t2) _ (λ k. let f : Fits w64 (getD (args .t1) k 0) = search needs in f .fits) _ (rw e at (loop .inv))
 
-pub shift-spec : {M : Type 1} → statement M
-shift-spec =
+pub advance-spec : {M : Type 1} → statement M
+advance-spec =
     tie.close
     (tie.spec
     Inv-loop
