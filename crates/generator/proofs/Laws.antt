@@ -27,7 +27,8 @@ use Rattle.lalr.proofs.Main.{card-answer}
 use Rattle.states.specs.States.{transition}
 use Rattle.transitions.specs.Next.{nextOf, Numbered, transitionCount}
 use Rattle.transitions.specs.Data.{Data}
-use Rattle.cells.specs.Actions.{Conflict, IsCell}
+use Rattle.tables.specs.Conflicts.{Conflict}
+use Rattle.cells.specs.Actions.{IsCell}
 use Rattle.cells.specs.Areas.{Tabled}
 use Rattle.bridge.specs.Premises.{Stated, Followed}
 use Rattle.bridge.specs.Actions.{Acts}
@@ -83,7 +84,7 @@ module _ (t₀ z₀ w₀ c : List ℕ) where
       next = nextOf c t n
 
       agree : (q x : ℕ) → q < n → transition c t q x ≡ nextOf c t n q x
-      unfolding Rattle.states.specs.States.transition Rattle.states.specs.States.rowOf nextOf Rattle.transitions.specs.Next.rowOf
+      unfolding transition nextOf
       agree q x h = rw (lt-ltb q n h)
 
       pub stated : Stated c n (nextOf c t n)
