@@ -1,6 +1,6 @@
 -- Canonical LR(1) items by the path of symbols that leads to their set (003, 4.2 and 4.3), and merging by core (4.4).
 -- An item is a production r, a dot behind d symbols of its right side, and a lookahead a (the paper's look-ahead).
--- Sets.antt has CLOSURE and GOTO as functions of sets; Canonical.antt of proofs/ shows that both say the same.
+-- Sets.antt has CLOSURE and GOTO as functions of sets; CanonicalSets.antt of proofs/ shows that both say the same.
 use Prim.Native.Nat.{ℕ, suc, _<_}
 use mathlib.Core.Path.{_≡_}
 use mathlib.Core.List.{List, [], _∷_, _++_}
@@ -44,7 +44,7 @@ module _ (g : Grammar) where
     pub same : SameCore γ path
     pub item : Canonical path r d a
 
-  -- the lookaheads of a complete item in state q: those that it has on some path to q. For numbered states (Lalr.antt) this is Merged
+  -- the lookaheads of a complete item in state q: those that it has on some path to q. For numbered states this is Merged (`merged-exact` in Paths.antt of proofs/)
   pub record Lookahead (next : ℕ → ℕ → ℕ) (q r a : ℕ) : Type 0 where
     pub path : List ℕ
     pub leads : walk next 0 path ≡ q
