@@ -15,7 +15,7 @@ use Rattle.transitions.specs.Area.{leavesOf, nonterminalOf, nullablesOf}
 use Rattle.transitions.specs.Occurrences.{symbolAt, Nullable}
 use Rattle.relations.specs.Edge.{Edge}
 use Rattle.bridge.specs.Premises.{Followed, transitionOf}
-use Rattle.bridge.proofs.Numbering.{card-formed, all-productive}
+use Rattle.bridge.proofs.Numbering.{card-formed, card-productive}
 use Rattle.bridge.proofs.RightSides.{right-symbol, dot-below, dot-symbol, list-all, all-list}
 use Rattle.bridge.proofs.Nullability.{nullable-empty, all-empty, empty-all, empty-one}
 use Rattle.bridge.proofs.LeadsLaws.{leads-is}
@@ -73,7 +73,7 @@ module _ {c w : List ℕ} {n k e : ℕ} {next : ℕ → ℕ → ℕ} {z : List �
         below = b;
         right = split-at (rightOf c (r .production)) (r .dot) 0 l ∙ ap (λ (x : ℕ). front ++ x ∷ behind) (right-symbol c (r .production) b (r .dot) (r .occurs .within) ∙ r .symbol);
         nullable = all-empty h
-            (symbols-drop (grammarOf c) (card-formed (h .stated)) (all-productive (h .stated)) (suc (r .dot)) (card-formed (h .stated) .right-symbols (r .production) b))
+            (symbols-drop (grammarOf c) (card-formed (h .stated)) (card-productive (h .stated)) (suc (r .dot)) (card-formed (h .stated) .right-symbols (r .production) b))
             (list-all c (r .production) b (Nullable c (nullablesOf w)) (suc (r .dot)) behind refl (r .occurs .tail));
         leads = leads-is (h .stated) (h .listed) (r .production) b (leavesOf w j) (leavesOf w i) (r .dot) (rw (r .left) (h .listed .some j hj)) front (drop (r .dot) (rightOf c (r .production)))
             (sym (take-append-drop (r .dot) (rightOf c (r .production)))) (length-take-le (r .dot) (rightOf c (r .production)) (omega arith)) .0 (r .leads);

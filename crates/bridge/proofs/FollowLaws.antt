@@ -18,7 +18,7 @@ use Rattle.relations.specs.Path.{Leads}
 use Rattle.digraph.specs.Completion.{Reaches, Join, Completed, at}
 use Rattle.lookaheads.specs.LooksBack.{LooksBack}
 use Rattle.bridge.specs.Premises.{Followed, transitionOf}
-use Rattle.bridge.proofs.Numbering.{card-formed, all-productive}
+use Rattle.bridge.proofs.Numbering.{card-formed, card-productive}
 use Rattle.bridge.proofs.LeadsLaws.{leads-is}
 use Rattle.bridge.proofs.EdgeLaws.{listed-at, reads-listed, reads-is, includes-listed, includes-is}
 
@@ -98,5 +98,5 @@ module _ {c w : List ℕ} {n k e : ℕ} {next : ℕ → ℕ → ℕ} {z : List �
     pub look-is : (q m : ℕ) → LooksBack c w z k q r m ↔ Lookahead (grammarOf c) next q r m
     look-is q m =
         let l = look-lookback q m in
-        let a = short-way (grammarOf c) (card-formed (h .stated)) (all-productive (h .stated)) n next (h .stated .states) (h .stated .inside) q r m b in
+        let a = short-way (grammarOf c) (card-formed (h .stated)) (card-productive (h .stated)) n next (h .stated .states) (h .stated .inside) q r m b in
         (λ x. a .1 (l .0 x), λ x. l .1 (a .0 x))

@@ -9,11 +9,10 @@ use native.Mathlib.Decide.{ℕ-discrete}
 use Rattle.grammar.specs.Grammar.{Grammar, Formed}
 use Rattle.grammar.specs.Card.{terminals, nonterminals, grammarOf}
 use Rattle.grammar.proofs.CardLaws.{well-formed, formed}
-use Rattle.grammar.proofs.Derive.{derives-yields}
 use Rattle.lr.specs.Items
 use Rattle.lr.specs.Items.{walk}
 use Rattle.lr.proofs.Runs
-use Rattle.lr.proofs.ItemLaws.{AllProductive, snoc-last, not-snoc, after-positive}
+use Rattle.lr.proofs.ItemLaws.{AllProductive, all-productive, snoc-last, not-snoc, after-positive}
 use Rattle.lr.proofs.Automaton.{Automaton, walk-snoc}
 use Rattle.lr.proofs.Paths.{Has, symbol-below, state-automaton}
 use Rattle.lr.proofs.RelationLaws.{went}
@@ -47,25 +46,20 @@ module _ {c : List ℕ} {n : ℕ} {next : ℕ → ℕ → ℕ} (s : Stated c n n
   pub card-formed : Formed (grammarOf c)
   card-formed = formed c (well-formed c (s .formed))
 
-  pub all-productive : AllProductive (grammarOf c)
-  all-productive = record {
-    made = λ {x} h k.
-        let p = s .productive x (record { from = h; below = k }) in
-        let y = derives-yields (grammarOf c) (p .derived) (p .terminals) in
-        (y .0, p .made, y .1);
-  }
+  pub card-productive : AllProductive (grammarOf c)
+  card-productive = all-productive (grammarOf c) (s .productive)
 
   pub automaton : Automaton (grammarOf c) n (Has (grammarOf c) next) next
-  automaton = state-automaton (grammarOf c) card-formed all-productive n next (s .states)
+  automaton = state-automaton (grammarOf c) card-formed card-productive n next (s .states)
 
   -- a transition has a path to its state, and an item with the dot before its symbol
   behind : (p x : ℕ) → next p x ≢ 0 → (γ : List ℕ) × Items.Viable (grammarOf c) γ × (walk next 0 γ ≡ p) × Runs.After (grammarOf c) γ x
   behind p x nz =
       let t = s .states .every p (s .inside p x nz) in
-      (t .0, t .1, t .2, went (grammarOf c) card-formed all-productive n (Has (grammarOf c) next) next automaton (t .1) (rw (t .2) nz))
+      (t .0, t .1, t .2, went (grammarOf c) card-formed card-productive n (Has (grammarOf c) next) next automaton (t .1) (rw (t .2) nz))
 
   after-below : {γ : List ℕ} {x : ℕ} → Runs.After (grammarOf c) γ x → x < terminals c + nonterminals c
-  after-below (Runs.dot-before (Items.with-lookahead i) e) = symbol-below (grammarOf c) card-formed all-productive i e
+  after-below (Runs.dot-before (Items.with-lookahead i) e) = symbol-below (grammarOf c) card-formed card-productive i e
 
   next-below : (p x : ℕ) → next p x < n
   next-below p x = go (ℕ-discrete (next p x) 0)
@@ -90,7 +84,7 @@ module _ {c : List ℕ} {n : ℕ} {next : ℕ → ℕ → ℕ} (s : Stated c n n
     most = s .most;
     from = s .inside;
     target = next-below;
-    low = λ p x nz. after-positive (grammarOf c) card-formed all-productive (behind p x nz .3);
+    low = λ p x nz. after-positive (grammarOf c) card-formed card-productive (behind p x nz .3);
     high = λ p x nz. after-below (behind p x nz .3);
     one = entered-by-one;
   }

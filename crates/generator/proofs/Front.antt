@@ -10,25 +10,12 @@ use lib.Dec.{leb, eqb, ltb}
 use borrow.Author.Tests.{le-ltb}
 use Rattle.sets.specs.Tests.{unless}
 use Rattle.grammar.specs.Card.{sizesOk, leftsOk, rightsOk, startOf, symbols, productions, formFault}
+use Rattle.grammar.proofs.CardLaws.{fault-most}
 use Rattle.lalr.specs.Generator.{refused, generated, writes, cardAnswer}
 use Rattle.lalr.proofs.Finish.{Room, by-card, short-table, short-words, short-halves}
 use Rattle.generator.specs.declared.Answer.the-variants.{Refused}
 use Rattle.generator.specs.Answer.{GeneratesAs}
 use Rattle.generator.proofs.Laws.{keeps}
-
-bounded : (b : Bool) (n m : ℕ) → n ≤ 9 → m ≤ 9 → unless b n m ≤ 9
-bounded true n m h k = k
-bounded false n m h k = h
-
--- the refusals of the card's form are 4 to 9
-fault-most : (c : List ℕ) → formFault c ≤ 9
-unfolding formFault
-fault-most c =
-    bounded (leb 4 (length c)) 4 _ (omega arith)
-    (bounded (sizesOk c) 5 _ (omega arith)
-    (bounded (eqb (length c) (4 + 2 * productions c + symbols c)) 6 _ (omega arith)
-    (bounded (leftsOk c) 7 _ (omega arith)
-    (bounded (eqb (startOf c (productions c)) (symbols c)) 8 _ (omega arith) (bounded (rightsOk c) 9 0 (omega arith) (omega arith))))))
 
 module _ (t z w c : List ℕ) where
   pub first : length t < 32004 → GeneratesAs (generated t z w c) (Refused 1) t z w

@@ -7,8 +7,7 @@ use lib.ListN.{length, getD}
 use Rattle.sets.specs.Lists.{covered}
 use Rattle.grammar.specs.Card.{terminals, formFault, grammarOf}
 use Rattle.grammar.specs.Grammar.{Derives}
-use Rattle.grammar.proofs.Derive.{derives-yields}
-use Rattle.lr.proofs.ItemLaws.{AllProductive}
+use Rattle.lr.proofs.ItemLaws.{all-productive}
 use Rattle.lr.specs.States.{States, MoreStates}
 use Rattle.lalr.specs.Generator.{made, refused, conflict, generated, tableOf}
 use Rattle.lalr.specs.Meaning.{AllUseful}
@@ -31,14 +30,6 @@ use Rattle.generator.specs.Phases.{Cleared, Complete}
 use Rattle.generator.proofs.Laws.{covered-same, covers-all, eleven, twelve, thirteen, table-made, the-table, numbers-states}
 use Rattle.generator.proofs.Walks.{sets-terminals}
 
-useful-productive : (c : List ℕ) → AllUseful (grammarOf c) → AllProductive (grammarOf c)
-useful-productive c u = record {
-  made = λ {x} a b.
-      let p = u .each-nonterminal x (record { from = a; below = b }) .productive in
-      let y = derives-yields (grammarOf c) (p .derived) (p .terminals) in
-      (y .0, p .made, y .1);
-}
-
 -- of more than 256 states, or of their number
 more : (c t : List ℕ) (n : ℕ) → Outcome c t n → 256 < n → MoreStates (grammarOf c) 256
 more c t _ (few n l s) h = absurd (omega arith)
@@ -51,7 +42,7 @@ found c t _ (many m) h = absurd (omega arith)
 module _ (t₀ z₀ w₀ c : List ℕ) (o : Room t₀ z₀ w₀) (f : formFault c ≡ 0) (u : AllUseful (grammarOf c)) where
   module _ (t₁ z₁ w₁ : List ℕ) (n : ℕ) (b : states.Built c t₀ z₀ w₀ t₁ z₁ w₁ n) (lt : length t₁ ≡ length t₀) (lz : length z₁ ≡ length z₀) (lw : length w₁ ≡ length w₀) where
     after : Outcome c t₁ n
-    after = outcome c z₀ t₀ z₁ t₁ n f (useful-productive c u) (b .stated)
+    after = outcome c z₀ t₀ z₁ t₁ n f (all-productive (grammarOf c) (λ x n. u .each-nonterminal x n .productive)) (b .stated)
 
     same-table : (l : List ℕ) → covered 32004 l t₁ ≡ covered 32004 l t₀
     same-table l = covered-same 32004 l t₀ t₁ lt (λ i h. b .table-kept .kept i h)

@@ -1,6 +1,6 @@
 -- A card to which none of the refusals 4 to 9 applies is a grammar in form, within the limits.
 use mathlib.Core.Path.{_≡_, refl, sym, ap, _∙_}
-use mathlib.Core.Bool.{true}
+use mathlib.Core.Bool.{Bool, true, false}
 use mathlib.Core.List.{List, [], _∷_, _++_}
 use mathlib.Core.Logic.{_⊎_, ⊎-elim}
 use Prim.Native.Nat.{ℕ, zero, suc, _+_, _*_, _≤_, _<_}
@@ -102,6 +102,21 @@ right-is c r h = rw (lt-ltb r (productions c) h)
 pub right-added : (c : List ℕ) → rightOf c (productions c) ≡ terminals c ∷ []
 unfolding rightOf
 right-added c = rw (le-ltb (productions c) (productions c) (omega arith))
+
+unless-most : (b : Bool) (n m k : ℕ) → n ≤ k → m ≤ k → unless b n m ≤ k
+unless-most true n m k h i = i
+unless-most false n m k h i = h
+
+-- the refusals of the card's form are 4 to 9
+pub fault-most : (c : List ℕ) → formFault c ≤ 9
+unfolding formFault
+fault-most c =
+    unless-most (leb 4 (length c)) 4 _ 9 (omega arith)
+    (unless-most (sizesOk c) 5 _ 9 (omega arith)
+    (unless-most (eqb (length c) (4 + 2 * productions c + symbols c)) 6 _ 9 (omega arith)
+    (unless-most (leftsOk c) 7 _ 9 (omega arith)
+    (unless-most (eqb (startOf c (productions c)) (symbols c)) 8 _ 9 (omega arith)
+    (unless-most (rightsOk c) 9 0 9 (omega arith) (omega arith))))))
 
 -- the table's second array holds the lengths of the right sides
 pub right-length : (c : List ℕ) (r : ℕ) → r < productions c → length (rightOf c r) ≡ lengthOf c r

@@ -29,7 +29,7 @@ use Rattle.sets.proofs.ListLaws.{each-same}
 use Rattle.lalr.proofs.ItemLaws.{In}
 use Rattle.lalr.proofs.StateLaws
 use Rattle.lalr.proofs.CellLaws.{Search, none-met, met-at, conflict-search, conflict-found, single-of}
-use Rattle.lalr.proofs.UsefulLaws.{useless-nonterminal, all-productive}
+use Rattle.lalr.proofs.UsefulLaws.{useless-nonterminal, none-useless}
 use Rattle.grammar.proofs.CardLaws.{WellFormed, well-formed, formed}
 
 module _ (g : Grammar) (f : Formed g) where
@@ -80,7 +80,7 @@ module _ (g : Grammar) (f : Formed g) where
             rw (e, grammarAnswer) (useless (record { from = l .from; below = h }) (l .here h) (λ y n k. l .before y (n .from) k))
         go false e =
             let h : g.terminals + g.nonterminals ≤ uselessNonterminal g = ltb-false (uselessNonterminal g) (g.terminals + g.nonterminals) e in
-            rw (e, grammarAnswer) (judge-is (all-useful h) (all-productive g f h))
+            rw (e, grammarAnswer) (judge-is (all-useful h) (none-useless g f h))
 
 -- ---- no other answer
 module _ (g : Grammar) where

@@ -22,7 +22,7 @@ use Rattle.lr.specs.States.{States}
 use Rattle.lr.specs.Cells.{Table}
 use Rattle.lr.specs.Relations.{Lookback}
 use Rattle.lr.proofs.Firsts.{first-yields}
-use Rattle.lr.proofs.ItemLaws.{AllProductive}
+use Rattle.lr.proofs.ItemLaws.{AllProductive, all-productive}
 use Rattle.lr.proofs.Paths.{merged-exact}
 use Rattle.lr.proofs.OneTable.{one-table, numbers-small, width-is}
 use Rattle.lr.proofs.ShortWay
@@ -59,7 +59,7 @@ module _ (c : List ℕ) (h : formFault c ≡ 0) where
   -- and past refusal 10
   module _ (useful : AllUseful (grammarOf c)) where
     made-all : AllProductive (grammarOf c)
-    made-all = record { made = λ {x} a b. (let u = useful .each-nonterminal x (record { from = a; below = b }) in let y = derives-yields (grammarOf c) (u .productive .derived) (u .productive .terminals) in (y .0, u .productive .made, y .1)) }
+    made-all = all-productive (grammarOf c) (λ x n. useful .each-nonterminal x n .productive)
 
     pub first-is : (β : List ℕ) (a b : ℕ) → Symbols (terminals c + nonterminals c) β → b < terminals c → (inFirst (grammarOf c) (nullables (grammarOf c)) (firsts (grammarOf c)) β a b ≡ true) ↔ First (grammarOf c) β a b
     first-is β a b s k = (in-sound (grammarOf c) f made-all a b k s, λ i. in-all (grammarOf c) f made-all a b k β (first-yields (grammarOf c) i))

@@ -23,7 +23,7 @@ use Rattle.lalr.specs.Lalr.{states, facts, cell}
 use Rattle.lalr.specs.Generator.{made, refused, uselessAt, conflictOf, judge, grammarAnswer, cardAnswer, tableOf}
 use Rattle.lalr.proofs.StateLaws
 use Rattle.lalr.proofs.CellLaws.{conflict-search, Short, single-of, cell-action, action-cell, action-positive, no-conflict}
-use Rattle.lalr.proofs.UsefulLaws.{all-productive}
+use Rattle.lalr.proofs.UsefulLaws.{none-useless}
 use Rattle.grammar.proofs.CardLaws.{WellFormed, well-formed, formed, right-length}
 use Rattle.tables.proofs.LayoutLaws.{built-sizes, built-long, built-left, built-length, built-cell}
 use Rattle.lalr.proofs.Judge.{holds, built, built-states, acts}
@@ -131,7 +131,7 @@ module _ (c : List ℕ) (mk : Made c) where
   the-formed = formed c the-form
 
   pub the-productive : AllProductive g
-  the-productive = all-productive g the-formed (mk .useful)
+  the-productive = none-useless g the-formed (mk .useful)
 
   abbrev pub transitions : ℕ → ℕ → ℕ
   transitions q x = Lalr.goes g (states g .rows) q x

@@ -10,7 +10,7 @@ use lib.Dec.{eqb}
 use borrow.Author.Tests.{eqb-true, eq-eqb}
 use Rattle.grammar.specs.Grammar.{Grammar, Formed, Symbols}
 use Rattle.grammar.proofs.Derive.{derives-yields}
-use Rattle.lr.proofs.ItemLaws.{AllProductive}
+use Rattle.lr.proofs.ItemLaws.{AllProductive, all-productive}
 use Rattle.grammar.specs.Useful.{Reachable, LowestUseless}
 use Rattle.grammar.proofs.Closed
 use Rattle.sets.specs.Bit.{bit}
@@ -120,5 +120,5 @@ module _ (g : Grammar) where
         join : {a b : Bool} → a ≡ true → b ≡ true → (a && b) ≡ true
         join e k = rw (e, k) refl
 
-    pub all-productive : g.terminals + g.nonterminals ≤ uselessNonterminal g → AllProductive g
-    all-productive h = record { made = λ {x} a b. let u = useless-nonterminal .before x a (omega arith) in let y = derives-yields g (u .productive .derived) (u .productive .terminals) in (y .0, u .productive .made, y .1) }
+    pub none-useless : g.terminals + g.nonterminals ≤ uselessNonterminal g → AllProductive g
+    none-useless h = all-productive g (λ x n. useless-nonterminal .before x (n .from) (omega (arith, n .below)) .productive)

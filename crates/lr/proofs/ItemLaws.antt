@@ -6,6 +6,8 @@ use lib.ListN.{drop, take}
 use native.Mathlib.Omega.{arith}
 use native.Mathlib.Decide.{decLt}
 use Rattle.grammar.specs.Grammar.{Grammar, Symbols, none, more, Formed}
+use Rattle.grammar.specs.Useful.{Nonterminal, Productive}
+use Rattle.grammar.proofs.Derive.{derives-yields}
 use Rattle.grammar.proofs.Yield.{Yields, nil, terminal, append, fold-back, yield-terminals}
 use Rattle.lr.proofs.Runs
 use Rattle.lr.specs.Items
@@ -59,6 +61,9 @@ module _ (g : Grammar) where
   -- nonterminals are productive: each yields some terminals
   pub record AllProductive : Type 0 where
     pub made : {x : ℕ} → g.terminals ≤ x → x < g.terminals + g.nonterminals → (p : List ℕ) × (w : List ℕ) × Yields g (x ∷ []) p w
+
+  pub all-productive : ((x : ℕ) → Nonterminal g x → Productive g x) → AllProductive
+  all-productive h = record { made = λ {x} a b. let p = h x (record { from = a; below = b }) in let y = derives-yields g (p .derived) (p .terminals) in (y .0, p .made, y .1) }
 
   pub data Extends (u : List ℕ) : Type 0 where
     extended : (z : List ℕ) {q : List ℕ} → Yields g (g.terminals ∷ []) q (u ++ z) → Extends u
