@@ -1,0 +1,4 @@
+pub mod Errno
+pub mod Example
+pub mod Parts
+pub mod Texts

@@ -1,0 +1,61 @@
+-- What is printed of a card is told by the card alone, and it fits a buffer of 195,114 bytes.
+use mathlib.Core.Path.{_≡_, refl, sym, ap, _∙_}
+use mathlib.Core.List.{List}
+use Prim.Native.Nat.{ℕ, _≤_}
+use native.Mathlib.Omega.{arith}
+use borrow.Author.Tests.{le-ltb, ne-eqb}
+use lib.ListN.{length, getD}
+use Rattle.tables.specs.Layout as layout
+use Rattle.lalr.specs.Generator.{Answer, made, numbersOf, cardAnswer, answerOf, tableOf, generated}
+use Rattle.lalr.proofs.AreaLaws.{made-area}
+use Rattle.lalr.proofs.Main.{card-table, table-words}
+use Rattle.lalr.proofs.TableLaws.{made-of, the-form}
+use Rattle.listing.specs.Listing as listing
+use Rattle.listing.specs.Listing.{tableText, refusalText, rowAt}
+use Rattle.listing.proofs.Room.{table-room, refusal-room}
+use Rattle.response.specs.Response.{responseText, cardText}
+use Rattle.response.proofs.Front.{table-front}
+use Rattle.response.proofs.Numbers.{Refusal, Printed, table, line, small, answer-printed}
+
+refusal-text : (a : Answer) (t : List ℕ) → Refusal a → responseText (numbersOf a) t ≡ refusalText (numbersOf a)
+unfolding responseText
+refusal-text a t r = rw (ne-eqb (getD (numbersOf a) 0 0) 0 (λ e. omega (arith, r .some))) refl
+
+module _ (c : List ℕ) (m : cardAnswer c ≡ made) where
+  table-long : rowAt (tableOf c) (listing.states (tableOf c)) ≡ length (tableOf c)
+  unfolding layout.sizeOf layout.states layout.terminals layout.nonterminals layout.productions layout.width
+  table-long = sym (card-table c m .long)
+
+  table-most : length (tableText (tableOf c)) ≤ 195114
+  unfolding layout.states layout.terminals layout.nonterminals layout.productions
+  table-most =
+      let z = card-table c m .sizes in
+      let l = the-form c (made-of c m) .limits in
+      table-room (tableOf c) (λ i. (let b = table-words c m i in omega arith)) (omega (arith, z .0, made-of c m .few)) (omega (arith, z .1, z .2, l .terminals-to, l .nonterminals-to)) (omega (arith, z .3, l .productions-to))
+
+long-areas : (t z w c : List ℕ) → 32004 ≤ length t → 8192 ≤ length z → 16384 ≤ length w → answerOf (length t) (length z) (length w) c ≡ cardAnswer c
+unfolding answerOf
+long-areas t z w c h i j = rw (le-ltb (length t) 32004 h, answerOf, le-ltb (length z) 8192 i, le-ltb (length w) 16384 j) refl
+
+answer-long : (t z w c : List ℕ) → 32004 ≤ length t → 8192 ≤ length z → 16384 ≤ length w → generated t z w c .answer ≡ cardAnswer c
+unfolding generated
+answer-long t z w c h i j = long-areas t z w c h i j
+
+-- what the maker leaves in areas that are long enough prints the card's text
+pub card-text : (t z w c : List ℕ) → 32004 ≤ length t → 8192 ≤ length z → 16384 ≤ length w
+    → responseText (numbersOf (generated t z w c .answer)) (generated t z w c .table) ≡ cardText c
+unfolding cardText responseText
+card-text t z w c h i j = ap (λ (a : Answer). responseText (numbersOf a) (generated t z w c .table)) (answer-long t z w c h i j) ∙ go refl (answer-printed c)
+  where
+    go : {a : Answer} → cardAnswer c ≡ a → Printed a → responseText (numbersOf a) (generated t z w c .table) ≡ responseText (numbersOf a) (tableOf c)
+    go e table = rw (made-area t z w c (long-areas t z w c h i j ∙ e)) (table-front (tableOf c) _ (table-long c e))
+    go e (line a r) = refusal-text a _ r ∙ sym (refusal-text a _ r)
+
+-- and the text fits
+pub card-room : (c : List ℕ) → length (cardText c) ≤ 195114
+unfolding cardText responseText
+card-room c = go refl (answer-printed c)
+  where
+    go : {a : Answer} → cardAnswer c ≡ a → Printed a → length (responseText (numbersOf a) (tableOf c)) ≤ 195114
+    go e table = table-most c e
+    go e (line a r) = rw (refusal-text a (tableOf c) r) (let b = refusal-room (numbersOf a) (small (r .words)) (r .few) in omega arith)

@@ -1,0 +1,5 @@
+pub mod CardText
+pub mod Front
+pub mod Numbers
+pub mod Texts
+pub mod Whole
