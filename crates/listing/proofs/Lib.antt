@@ -1,4 +1,5 @@
 pub mod Example
 pub mod Lines
+pub mod Parts
 pub mod ReadBack
 pub mod Room

@@ -10,7 +10,10 @@ use lib.Seq.{drop-cons, take-length}
 use Rattle.decimal.specs.Digits.{decimalOf}
 use Rattle.decimal.specs.Page.{Page, pageOf, page, wroteByte, wrote}
 use Rattle.decimal.proofs.Written.{wrote-append, wrote-joined, wrote-last, wrote-front}
-use Rattle.listing.specs.Listing.{spaced, lineOf, rowOf, rowWord, colonWord, part, states, columns, productions, rowAt, rowsOf, tableText, tableWord, leftWord, lengthWord, refusalText, refusedWord}
+use Rattle.tables.specs.Layout.{states, terminals, nonterminals, productions, width}
+use Rattle.listing.specs.Listing.{spaced, lineOf, rowOf, rowWord, colonWord, tableText, tableWord, leftWord, lengthWord, refusalText, refusedWord}
+use Rattle.listing.specs.Parts.{part, rowAt, rowsOf}
+use Rattle.listing.proofs.Parts.{part-whole, table-parts}
 
 -- one element more of a part, and none
 part-next : (t : List ℕ) (i end : ℕ) → i < end → part t i (end - i) ≡ getD t i 0 ∷ part t (i + 1) (end - (i + 1))
@@ -46,17 +49,18 @@ row-done n ns p a b c d e f g h i j =
     wrote-joined p a e _ _ f (wrote-joined a b e _ _ g (wrote-joined b c e _ _ h (ends ns c d e i j)))
 
 -- what holds in the loop over the rows: what is left to write, the buffer's length, where the next row stands, and that no sum wraps
-pub record Going (t : List ℕ) (count width : ℕ) (start : Page) (out : List ℕ) (from n q size : ℕ) : Type 0 where
+pub record Going (t : List ℕ) (count columns : ℕ) (start : Page) (out : List ℕ) (from n q size : ℕ) : Type 0 where
   pub same : wrote (pageOf out n) (rowsOf t q (count - q)) ≡ wrote start (rowsOf t 0 (states t))
   pub kept : length out ≡ size
   pub place : from ≡ rowAt t q
-  pub wide : width ≡ columns t
+  pub wide : columns ≡ width t
   pub few : count < 65536
-  pub narrow : width < 131072
+  pub narrow : columns < 131072
   pub room : from ≤ 131080 + q * 131072
 
-pub rows-start : (t : List ℕ) (count a b p : ℕ) (out : List ℕ) (n : ℕ) → (count ≡ states t) × (count < 65536) → (a ≡ getD t 1 0) × (a < 65536)
-    → (b ≡ getD t 2 0) × (b < 65536) → (p ≡ productions t) × (p < 65536) → Going t count (a + b) (pageOf out n) out (4 + 2 * p) n 0 (length out)
+pub rows-start : (t : List ℕ) (count a b p : ℕ) (out : List ℕ) (n : ℕ) → (count ≡ getD t 0 0) × (count < 65536) → (a ≡ getD t 1 0) × (a < 65536)
+    → (b ≡ getD t 2 0) × (b < 65536) → (p ≡ getD t 3 0) × (p < 65536) → Going t count (a + b) (pageOf out n) out (4 + 2 * p) n 0 (length out)
+unfolding states terminals nonterminals productions width
 rows-start t count a b p out n e f g h = record {
   same = (let k : count - 0 ≡ states t = omega arith in rw k refl);
   kept = refl;
@@ -68,24 +72,24 @@ rows-start t count a b p out n e f g h = record {
 }
 
 -- the next row begins where the row ends
-pub row-next : (t : List ℕ) (q from width : ℕ) → from ≡ rowAt t q → width ≡ columns t → from + width ≡ rowAt t (q + 1)
-row-next t q from width e f = rw (e, f, add-one, suc-mul q (columns t)) (omega arith)
+pub row-next : (t : List ℕ) (q from columns : ℕ) → from ≡ rowAt t q → columns ≡ width t → from + columns ≡ rowAt t (q + 1)
+row-next t q from columns e f = rw (e, f, add-one, suc-mul q (width t)) (omega arith)
 
-rows-more : (t : List ℕ) (q n from width : ℕ) (p r : Page) → q < n → from ≡ rowAt t q → width ≡ columns t
-    → r ≡ wrote p (rowOf q (part t from (from + width - from))) → wrote r (rowsOf t (q + 1) (n - (q + 1))) ≡ wrote p (rowsOf t q (n - q))
+rows-more : (t : List ℕ) (q n from columns : ℕ) (p r : Page) → q < n → from ≡ rowAt t q → columns ≡ width t
+    → r ≡ wrote p (rowOf q (part t from (from + columns - from))) → wrote r (rowsOf t (q + 1) (n - (q + 1))) ≡ wrote p (rowsOf t q (n - q))
 unfolding rowsOf
-rows-more t q n from width p r h e f g =
+rows-more t q n from columns p r h e f g =
     let k : n - q ≡ suc (n - (q + 1)) = omega arith in
-    let l : from + width - from ≡ columns t = omega arith in
-    rw (k, g, l, e) (wrote-append p (rowOf q (part t (rowAt t q) (columns t))) (rowsOf t (q + 1) (n - (q + 1))))
+    let l : from + columns - from ≡ width t = omega arith in
+    rw (k, g, l, e) (wrote-append p (rowOf q (part t (rowAt t q) (width t))) (rowsOf t (q + 1) (n - (q + 1))))
 
-pub rows-next : (t : List ℕ) (count width : ℕ) (start : Page) (out : List ℕ) (from n q size : ℕ) (next : List ℕ) (m : ℕ)
-    → Going t count width start out from n q size → q < count → length next ≡ length out
-    → pageOf next m ≡ wrote (pageOf out n) (rowOf q (part t from (from + width - from))) → Going t count width start next (from + width) m (q + 1) size
-rows-next t count width start out from n q size next m g h l e = record {
-  same = rows-more t q count from width (pageOf out n) (pageOf next m) h (g .place) (g .wide) e ∙ g .same;
+pub rows-next : (t : List ℕ) (count columns : ℕ) (start : Page) (out : List ℕ) (from n q size : ℕ) (next : List ℕ) (m : ℕ)
+    → Going t count columns start out from n q size → q < count → length next ≡ length out
+    → pageOf next m ≡ wrote (pageOf out n) (rowOf q (part t from (from + columns - from))) → Going t count columns start next (from + columns) m (q + 1) size
+rows-next t count columns start out from n q size next m g h l e = record {
+  same = rows-more t q count from columns (pageOf out n) (pageOf next m) h (g .place) (g .wide) e ∙ g .same;
   kept = l ∙ g .kept;
-  place = row-next t q from width (g .place) (g .wide);
+  place = row-next t q from columns (g .place) (g .wide);
   wide = g .wide;
   few = g .few;
   narrow = g .narrow;
@@ -96,23 +100,15 @@ pub rows-done : (t : List ℕ) (q n : ℕ) (p : Page) → n ≤ q → wrote p (r
 unfolding rowsOf wrote
 rows-done t q n p h = let k : n - q ≡ 0 = omega arith in rw k refl
 
-pub table-done : (t out : List ℕ) (n : ℕ) (a b c d : Page) → n ≡ productions t → a ≡ wrote (pageOf out 0) (lineOf tableWord (part t 0 (4 - 0)))
+pub table-done : (t out : List ℕ) (n : ℕ) (a b c d : Page) → n ≡ getD t 3 0 → a ≡ wrote (pageOf out 0) (lineOf tableWord (part t 0 (4 - 0)))
     → b ≡ wrote a (lineOf leftWord (part t 4 (4 + n - 4))) → c ≡ wrote b (lineOf lengthWord (part t (4 + n) (4 + 2 * n - (4 + n))))
     → d ≡ wrote c (rowsOf t 0 (states t)) → d ≡ page out (tableText t)
-unfolding tableText
+unfolding productions
 table-done t out n a b c d e f g h i =
     let k : 4 + n - 4 ≡ n = omega arith in
     let l : 4 + 2 * n - (4 + n) ≡ n = omega arith in
-    wrote-joined _ a d _ _ f (wrote-joined a b d _ _ (rw (k, e) at g) (wrote-joined b c d _ _ (rw (l, e) at h) i)) ∙ wrote-front out _
-
--- a part within the list, and the whole of it
-pub part-slice : (t : List ℕ) (i n : ℕ) → i + n ≤ length t → part t i n ≡ take n (drop i t)
-unfolding part
-part-slice t i zero h = refl
-part-slice t i (suc n) h = rw (drop-cons t i 0 (omega arith), add-one) (ap (λ (l : List ℕ). getD t i 0 ∷ l) (part-slice t (suc i) n (omega arith)))
-
-pub part-whole : (t : List ℕ) → part t 0 (length t) ≡ t
-part-whole t = part-slice t 0 (length t) (omega arith) ∙ take-length t
+    rw (table-parts t)
+    (wrote-joined _ a d _ _ f (wrote-joined a b d _ _ (rw (k, e) at g) (wrote-joined b c d _ _ (rw (l, e) at h) i)) ∙ wrote-front out _)
 
 pub refusal-done : (ns out : List ℕ) (p : Page) → p ≡ wrote (pageOf out 0) (lineOf refusedWord (part ns 0 (length ns - 0))) → p ≡ page out (refusalText ns)
 unfolding refusalText

@@ -13,9 +13,12 @@ use Rattle.decimal.specs.Digits.{decimalOf}
 use Rattle.decimal.specs.Form.{Separator, blank, line-feed, nil, Numeral, digit, longer, Text, empty, next}
 use Rattle.decimal.proofs.Decimal.{decimal-numeral}
 use Rattle.decimal.proofs.Parse.{led-text}
-use Rattle.listing.specs.Listing.{spaced, lineOf, rowOf, part, states, columns, productions, rowAt, rowsOf, tableText, tableWord, leftWord, lengthWord, colonWord, refusedWord, refusalText}
+use Rattle.tables.specs.Layout.{states, productions, width, sizeOf}
+use Rattle.listing.specs.Listing.{spaced, lineOf, rowOf, tableText, tableWord, leftWord, lengthWord, colonWord, refusedWord, refusalText}
 use Rattle.listing.specs.Numbers.{isDigit, runs, numbersIn}
-use Rattle.listing.proofs.Lines.{part-whole, row-next}
+use Rattle.listing.specs.Parts.{part, rowAt, rowsOf}
+use Rattle.listing.proofs.Lines.{row-next}
+use Rattle.listing.proofs.Parts.{part-append, part-whole, table-parts}
 
 a-digit : (d : ℕ) → d < 10 → isDigit (48 + d) ≡ true
 unfolding isDigit
@@ -70,47 +73,41 @@ row-back q ns bs f =
     rw (append-assoc (decimalOf q) (colonWord ++ (spaced ns ++ 10 ∷ [])) bs, append-assoc (spaced ns) (10 ∷ []) bs)
     (reads (decimal-numeral q) (colonWord ++ (spaced ns ++ 10 ∷ bs)) ∙ spaced-back ns bs f)
 
-part-append : (t : List ℕ) (i m n : ℕ) → part t i (m + n) ≡ part t i m ++ part t (i + m) n
-unfolding part
-part-append t i zero n = rw (zero-add, add-zero) refl
-part-append t i (suc m) n =
-    let e : i + suc m ≡ i + 1 + m = omega arith in
-    rw (suc-add, e) (ap (λ (l : List ℕ). getD t i 0 ∷ l) (part-append t (i + 1) m n))
-
 rows-fresh : (t : List ℕ) (q n : ℕ) → Fresh (rowsOf t q n)
 unfolding rowsOf rowOf
 rows-fresh t q zero = refl
 rows-fresh t q (suc n) = refl
 
-rows-back : (t : List ℕ) (q n : ℕ) → runs none (rowsOf t q n) ≡ part t (rowAt t q) (n * columns t)
+rows-back : (t : List ℕ) (q n : ℕ) → runs none (rowsOf t q n) ≡ part t (rowAt t q) (n * width t)
 unfolding rowsOf runs part
 rows-back t q zero = rw zero-mul refl
 rows-back t q (suc n) =
-    let e : suc n * columns t ≡ columns t + n * columns t = rw suc-mul (omega arith) in
-    rw (row-back q (part t (rowAt t q) (columns t)) (rowsOf t (q + 1) n) (rows-fresh t (q + 1) n), rows-back t (q + 1) n, ← row-next t q (rowAt t q) (columns t) refl refl, e)
-    (sym (part-append t (rowAt t q) (columns t) (n * columns t)))
+    let e : suc n * width t ≡ width t + n * width t = rw suc-mul (omega arith) in
+    rw (row-back q (part t (rowAt t q) (width t)) (rowsOf t (q + 1) n) (rows-fresh t (q + 1) n), rows-back t (q + 1) n, ← row-next t q (rowAt t q) (width t) refl refl, e)
+    (sym (part-append t (rowAt t q) (width t) (n * width t)))
 
 parts-join : (t : List ℕ) (n m : ℕ) → part t 0 4 ++ (part t 4 n ++ (part t (4 + n) n ++ part t (4 + n + n) m)) ≡ part t 0 (4 + (n + (n + m)))
 parts-join t n m = rw (part-append t 0 4 (n + (n + m)), part-append t 4 n (n + m), part-append t (4 + n) n m) refl
 
 -- the text of a table has the table's numbers: as many as its sizes say
-pub table-back : (t : List ℕ) → numbersIn (tableText t) ≡ part t 0 (rowAt t (states t))
-unfolding tableText lineOf runs isDigit
+pub table-back : (t : List ℕ) → numbersIn (tableText t) ≡ part t 0 (sizeOf t)
+unfolding sizeOf lineOf runs isDigit
 table-back t =
     let n : ℕ = productions t in
     let e : rowAt t 0 ≡ 4 + n + n = rw zero-mul (omega arith) in
-    let f : rowAt t (states t) ≡ 4 + (n + (n + states t * columns t)) = omega arith in
-    line-back tableWord (part t 0 4) _ (λ bs. refl) refl
+    let f : sizeOf t ≡ 4 + (n + (n + states t * width t)) = omega arith in
+    rw (table-parts t)
+    (line-back tableWord (part t 0 4) _ (λ bs. refl) refl
     ∙ ap (λ (l : List ℕ). part t 0 4 ++ l)
     (line-back leftWord (part t 4 n) _ (λ bs. refl) refl
     ∙ ap (λ (l : List ℕ). part t 4 n ++ l)
     (line-back lengthWord (part t (4 + n) n) (rowsOf t 0 (states t)) (λ bs. refl) (rows-fresh t 0 (states t))
     ∙ ap (λ (l : List ℕ). part t (4 + n) n ++ l) (rows-back t 0 (states t))))
-    ∙ rw (e, f) (parts-join t n (states t * columns t))
+    ∙ rw (e, f) (parts-join t n (states t * width t)))
 
 -- and so the table itself, where it is all there
-pub table-back-whole : (t : List ℕ) → rowAt t (states t) ≡ length t → numbersIn (tableText t) ≡ t
-table-back-whole t e = table-back t ∙ rw (e, part-whole t) refl
+pub table-back-whole : (t : List ℕ) → length t ≡ sizeOf t → numbersIn (tableText t) ≡ t
+table-back-whole t e = table-back t ∙ rw (← e, part-whole t) refl
 
 -- the text of a refusal has its number and its values
 pub refusal-back : (ns : List ℕ) → numbersIn (refusalText ns) ≡ ns

@@ -6,7 +6,10 @@ use native.Mathlib.Omega.{arith}
 use lib.ListN.{length, getD, length-append}
 use Rattle.decimal.specs.Digits.{decimalOf}
 use Rattle.decimal.proofs.Decimal.{decimal-length}
-use Rattle.listing.specs.Listing.{spaced, lineOf, rowOf, part, states, columns, productions, rowAt, rowsOf, tableText, tableWord, leftWord, lengthWord, refusalText}
+use Rattle.tables.specs.Layout.{states, productions, width}
+use Rattle.listing.specs.Listing.{spaced, lineOf, rowOf, tableText, tableWord, leftWord, lengthWord, refusalText}
+use Rattle.listing.specs.Parts.{part, rowAt, rowsOf}
+use Rattle.listing.proofs.Parts.{table-parts}
 
 -- all numbers are of 16 bits
 abbrev pub Small : List ℕ → Type 0
@@ -47,23 +50,22 @@ row-room t q i n f l =
     let g : length (decimalOf q) ≤ 5 = digits-room q l in
     simp length-append (omega arith)
 
-rows-room : (t : List ℕ) (q n : ℕ) → Small t → columns t ≤ 124 → q + n ≤ 65536 → length (rowsOf t q n) ≤ n * 756
+rows-room : (t : List ℕ) (q n : ℕ) → Small t → width t ≤ 124 → q + n ≤ 65536 → length (rowsOf t q n) ≤ n * 756
 unfolding rowsOf
 rows-room t q zero f l m = omega arith
 rows-room t q (suc n) f l m =
-    let h : length (rowOf q (part t (rowAt t q) (columns t))) ≤ 12 + 6 * columns t = row-room t q (rowAt t q) (columns t) f (omega arith) in
+    let h : length (rowOf q (part t (rowAt t q) (width t))) ≤ 12 + 6 * width t = row-room t q (rowAt t q) (width t) f (omega arith) in
     let i : length (rowsOf t (q + 1) n) ≤ n * 756 = rows-room t (q + 1) n f l (omega arith) in
     simp length-append (omega arith)
 
 -- the text of a table within the limits
-pub table-room : (t : List ℕ) → Small t → states t ≤ 256 → columns t ≤ 124 → productions t ≤ 128 → length (tableText t) ≤ 195114
-unfolding tableText
+pub table-room : (t : List ℕ) → Small t → states t ≤ 256 → width t ≤ 124 → productions t ≤ 128 → length (tableText t) ≤ 195114
 table-room t f q c p =
     let a : length (lineOf tableWord (part t 0 4)) ≤ 30 = line-room tableWord t 0 4 f in
     let b : length (lineOf leftWord (part t 4 (productions t))) ≤ 4 + 6 * productions t + 1 = line-room leftWord t 4 (productions t) f in
     let d : length (lineOf lengthWord (part t (4 + productions t) (productions t))) ≤ 6 + 6 * productions t + 1 = line-room lengthWord t (4 + productions t) (productions t) f in
     let e : length (rowsOf t 0 (states t)) ≤ states t * 756 = rows-room t 0 (states t) f c (omega arith) in
-    simp length-append (omega arith)
+    rw (table-parts t) (simp length-append (omega arith))
 
 -- and of a refusal with up to five numbers
 pub refusal-room : (ns : List ℕ) → Small ns → length ns ≤ 5 → length (refusalText ns) ≤ 38

@@ -1,7 +1,8 @@
 -- What is printed, byte for byte. Bytes are ASCII: 32 is a blank, 10 a line feed, 58 a colon.
-use Prim.Native.Nat.{ℕ, zero, suc, _+_, _*_}
+use Prim.Native.Nat.{ℕ}
 use mathlib.Core.List.{List, [], _∷_, _++_}
-use lib.ListN.{getD}
+use Rattle.sets.specs.Lists.{each}
+use Rattle.tables.specs.Layout.{states, terminals, nonterminals, productions, width, leftOf, lengthOf, cellOf}
 use Rattle.decimal.specs.Digits.{decimalOf}
 
 -- `table`, `left`, `length`, `row` and a blank, a blank and a colon, `refused`
@@ -40,37 +41,13 @@ lineOf w ns = w ++ (spaced ns ++ 10 ∷ [])
 unfoldable pub rowOf : ℕ → List ℕ → List ℕ
 rowOf q ns = rowWord ++ (decimalOf q ++ (colonWord ++ (spaced ns ++ 10 ∷ [])))
 
--- n numbers of a table from a place on, 0 past its end
-unfoldable pub part : List ℕ → ℕ → ℕ → List ℕ
-part t i zero = []
-part t i (suc n) = getD t i 0 ∷ part t (i + 1) n
-
--- the sizes: states, productions, and the columns of a row, which are terminals and nonterminals
-abbrev pub states : List ℕ → ℕ
-states t = getD t 0 0
-
-abbrev pub columns : List ℕ → ℕ
-columns t = getD t 1 0 + getD t 2 0
-
-abbrev pub productions : List ℕ → ℕ
-productions t = getD t 3 0
-
--- the place of a row in the table
-abbrev pub rowAt : List ℕ → ℕ → ℕ
-rowAt t q = 4 + 2 * productions t + q * columns t
-
--- n rows from state q on
-unfoldable pub rowsOf : List ℕ → ℕ → ℕ → List ℕ
-rowsOf t q zero = []
-rowsOf t q (suc n) = rowOf q (part t (rowAt t q) (columns t)) ++ rowsOf t (q + 1) n
-
 -- a table: its sizes, left sides, lengths and rows
 unfoldable pub tableText : List ℕ → List ℕ
 tableText t =
-    lineOf tableWord (part t 0 4)
-    ++ (lineOf leftWord (part t 4 (productions t))
-    ++ (lineOf lengthWord (part t (4 + productions t) (productions t))
-    ++ rowsOf t 0 (states t)))
+    lineOf tableWord (states t ∷ terminals t ∷ nonterminals t ∷ productions t ∷ [])
+    ++ (lineOf leftWord (each (productions t) (λ r. leftOf t r ∷ []))
+    ++ (lineOf lengthWord (each (productions t) (λ r. lengthOf t r ∷ []))
+    ++ each (states t) (λ q. rowOf q (each (width t) (λ x. cellOf t q x ∷ [])))))
 
 -- a refusal: its number and its values
 unfoldable pub refusalText : List ℕ → List ℕ

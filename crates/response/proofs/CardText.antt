@@ -5,13 +5,12 @@ use Prim.Native.Nat.{ℕ, _≤_}
 use native.Mathlib.Omega.{arith}
 use borrow.Author.Tests.{le-ltb, ne-eqb}
 use lib.ListN.{length, getD}
-use Rattle.tables.specs.Layout as layout
+use Rattle.tables.specs.Layout.{width}
 use Rattle.lalr.specs.Generator.{Answer, made, numbersOf, cardAnswer, answerOf, tableOf, generated}
 use Rattle.lalr.proofs.AreaLaws.{made-area}
 use Rattle.lalr.proofs.Main.{card-table, table-words}
 use Rattle.lalr.proofs.TableLaws.{made-of, the-form}
-use Rattle.listing.specs.Listing as listing
-use Rattle.listing.specs.Listing.{tableText, refusalText, rowAt}
+use Rattle.listing.specs.Listing.{tableText, refusalText}
 use Rattle.listing.proofs.Room.{table-room, refusal-room}
 use Rattle.response.specs.Response.{responseText, cardText}
 use Rattle.response.proofs.Front.{table-front}
@@ -22,12 +21,8 @@ unfolding responseText
 refusal-text a t r = rw (ne-eqb (getD (numbersOf a) 0 0) 0 (λ e. omega (arith, r .some))) refl
 
 module _ (c : List ℕ) (m : cardAnswer c ≡ made) where
-  table-long : rowAt (tableOf c) (listing.states (tableOf c)) ≡ length (tableOf c)
-  unfolding layout.sizeOf layout.states layout.terminals layout.nonterminals layout.productions layout.width
-  table-long = sym (card-table c m .long)
-
   table-most : length (tableText (tableOf c)) ≤ 195114
-  unfolding layout.states layout.terminals layout.nonterminals layout.productions
+  unfolding width
   table-most =
       let z = card-table c m .sizes in
       let l = the-form c (made-of c m) .limits in
@@ -48,7 +43,7 @@ unfolding cardText responseText
 card-text t z w c h i j = ap (λ (a : Answer). responseText (numbersOf a) (generated t z w c .table)) (answer-long t z w c h i j) ∙ go refl (answer-printed c)
   where
     go : {a : Answer} → cardAnswer c ≡ a → Printed a → responseText (numbersOf a) (generated t z w c .table) ≡ responseText (numbersOf a) (tableOf c)
-    go e table = rw (made-area t z w c (long-areas t z w c h i j ∙ e)) (table-front (tableOf c) _ (table-long c e))
+    go e table = rw (made-area t z w c (long-areas t z w c h i j ∙ e)) (table-front (tableOf c) _ (card-table c e .long))
     go e (line a r) = refusal-text a _ r ∙ sym (refusal-text a _ r)
 
 -- and the text fits

@@ -5,7 +5,8 @@ use mathlib.Core.Path.{_≡_, refl, sym, _∙_}
 use native.Mathlib.Omega.{arith}
 use lib.ListN.{length}
 use Rattle.decimal.specs.Page.{pageOf, wrote}
-use Rattle.listing.specs.Listing.{spaced, part}
+use Rattle.listing.specs.Listing.{spaced}
+use Rattle.listing.specs.Parts.{part}
 use Rattle.listing.proofs.Lines.{numbers-next, numbers-done}
 use Rattle.listing.proofs.numbers.Statement.{statement}
 use Rattle.listing.proofs.numbers.Tie as tie
