@@ -1,4 +1,3 @@
-pub mod Errno
 pub mod Example
 pub mod Parts
 pub mod Texts

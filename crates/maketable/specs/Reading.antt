@@ -18,9 +18,9 @@ Some f g = (bs : List ℕ) × (g ≡ fed f bs)
 abbrev pub Taken : List ℕ → Scan → List ℕ → Part → Type 0
 Taken a s b (part.Bytes t) = Some (fedOf a s) (fedOf b t)
 Taken a s b part.End = b ≡ a
-Taken a s b (part.Failed e) = Unit {0}
+Taken a s b part.Failed = Unit {0}
 
 -- the whole input: the area before and behind
 abbrev pub Came : List ℕ → List ℕ → Input → Type 0
 Came a b (input.Whole s) = Some (fedOf a (Between 0)) (fedOf b s)
-Came a b (input.Failed e) = Unit {0}
+Came a b input.Failed = Unit {0}

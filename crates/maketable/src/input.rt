@@ -2,17 +2,17 @@
 ghost use Rattle.maketable.specs.Reading.{Taken, Came};
 use decimal::Scan;
 
-// The input: all of it, with where the scan stands then, or errno's number where a read failed.
+// All of the input, with where the scan stands then; or a read failed, and standard error has it.
 pub enum Input {
     Whole(Scan),
-    Failed(i32),
+    Failed,
 }
 
-// A read: bytes, with where the scan stands behind them, the end of the input, or errno's number.
+// A read: bytes, with where the scan stands behind them, the end of the input, or a failure.
 enum Part {
     Bytes(Scan),
     End,
-    Failed(i32),
+    Failed,
 }
 
 // Reads once, and feeds the scan what came.
@@ -22,7 +22,8 @@ fn read_some(card: &mut [u16; 772], s: Scan) -> Part
     let mut buf = io::buffer();
     let got = libc::read(libc::STDIN_FILENO, &mut buf);
     if got < 0 {
-        return Part::Failed(os::errno());
+        os::fail(b"maketable: read");
+        return Part::Failed;
     }
     if got == 0 {
         return Part::End;
@@ -32,7 +33,7 @@ fn read_some(card: &mut [u16; 772], s: Scan) -> Part
 }
 
 // Reads to the end of the input. A loop has to end, and nothing says that an input does: so it
-// counts its turns down from a number that no run uses up, and would call such an input too large.
+// counts its turns down from a number that no run uses up.
 pub fn read(card: &mut [u16; 772]) -> Input
     ensures { λ r. ⌜ Came (now (card .entry)) (now (card .exit)) r ⌝ }
 {
@@ -43,9 +44,10 @@ pub fn read(card: &mut [u16; 772]) -> Input
         match part {
             Part::Bytes(t) => s = t,
             Part::End => return Input::Whole(s),
-            Part::Failed(error) => return Input::Failed(error),
+            Part::Failed => return Input::Failed,
         }
         turns -= 1;
     }
-    Input::Failed(libc::EFBIG)
+    io::write_all(libc::STDERR_FILENO, b"maketable: read: input without end\n");
+    Input::Failed
 }

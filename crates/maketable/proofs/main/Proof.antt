@@ -1,5 +1,6 @@
--- `main` meets its contract: the numbers found are a card's, and where none are found the input is none.
-use Rattle.maketable.proofs.Parts.{numbers-used, numbers-card, no-card}
+-- `main` meets its contract: what it prints is the answer to the bytes that came.
+use mathlib.Core.Path.{sym}
+use Rattle.maketable.proofs.Texts.{came-long, answered, zeros-long}
 use borrow.Author.Needs.{needs}
 use Rattle.maketable.proofs.main.Statement.{statement}
 use Rattle.maketable.proofs.main.Tie as tie
@@ -10,35 +11,26 @@ read-requires c κs = search needs
 enum-known-all : tie.Need-enum-known-all
 enum-known-all c = search needs
 
-finish-requires : tie.Need-finish-requires
-finish-requires c κs = search needs
+slice-aggregate-answer : tie.Need-slice-aggregate-answer
+slice-aggregate-answer c = sym (came-long _ _ (rw (c .before .before .all .given .1) at (c .before .before .before .before .read .ensures)))
 
-enum-known-found : tie.Need-enum-known-found
-enum-known-found c = search needs
+slice-aggregate-answer-2 : tie.Need-slice-aggregate-answer-2
+slice-aggregate-answer-2 c = search needs
 
-array-share-prefix-card : tie.Need-array-share-prefix-card
-array-share-prefix-card c = numbers-used _ _ _ (rw (c .before .before .before .before .before .all .given .1) at (c .before .before .before .before .before .before .before .read .ensures)) (c .before .before .before .finish .ensures .0) _ (c .before .found .given .1) (c .before .before .before .finish .ensures .1) .0
+answer-requires : tie.Need-answer-requires
+answer-requires c κs = came-long _ _ (rw (c .before .before .before .all .given .1) at (c .before .before .before .before .before .read .ensures))
 
-slice-aggregate-print-answer : tie.Need-slice-aggregate-print-answer
-slice-aggregate-print-answer c = numbers-used _ _ _ (rw (c .before .before .before .before .before .before .all .given .1) at (c .before .before .before .before .before .before .before .before .read .ensures)) (c .before .before .before .before .finish .ensures .0) _ (c .before .before .found .given .1) (c .before .before .before .before .finish .ensures .1) .1
+array-share-prefix-out : tie.Need-array-share-prefix-out
+array-share-prefix-out c = search needs
 
-print-answer-requires : tie.Need-print-answer-requires
-print-answer-requires c κs = numbers-card _ _ _ (rw (c .before .before .before .before .before .before .all .given .1) at (c .before .before .before .before .before .before .before .before .read .ensures)) (c .before .before .before .before .finish .ensures .0) _ (c .before .before .found .given .1)
+slice-aggregate-print : tie.Need-slice-aggregate-print
+slice-aggregate-print c = search needs
+
+print-requires : tie.Need-print-requires
+print-requires c κs = answered _ _ _ (rw (c .before .before .before .before .before .before .all .given .1) at (c .before .before .before .before .before .before .before .before .read .ensures)) (c .before .before .answer .ensures .0 (zeros-long 195114))
 
 enum-told : tie.Need-enum-told
 enum-told c = search needs
-
-print-not-a-card-requires : tie.Need-print-not-a-card-requires
-print-not-a-card-requires c κs = no-card _ _ _ (rw (c .before .before .before .before .all .given .1) at (c .before .before .before .before .before .before .read .ensures)) (c .before .before .finish .ensures .0) (c .enum-told .given .1)
-
-enum-known-all-2 : tie.Need-enum-known-all-2
-enum-known-all-2 c = search needs
-
-slice-aggregate-failed : tie.Need-slice-aggregate-failed
-slice-aggregate-failed c = search needs
-
-failed-requires : tie.Need-failed-requires
-failed-requires c κs = search needs
 
 returns : tie.Need-returns
 returns c = search needs
@@ -46,25 +38,18 @@ returns c = search needs
 returns-2 : tie.Need-returns-2
 returns-2 c = search needs
 
-returns-3 : tie.Need-returns-3
-returns-3 c = search needs
-
 pub main-spec : {M : Type 1} → statement M
 main-spec =
     tie.close
     (tie.spec
     read-requires
     enum-known-all
-    finish-requires
-    enum-known-found
-    array-share-prefix-card
-    slice-aggregate-print-answer
-    print-answer-requires
+    slice-aggregate-answer
+    slice-aggregate-answer-2
+    answer-requires
+    array-share-prefix-out
+    slice-aggregate-print
+    print-requires
     enum-told
-    print-not-a-card-requires
-    enum-known-all-2
-    slice-aggregate-failed
-    failed-requires
     returns
-    returns-2
-    returns-3)
+    returns-2)
