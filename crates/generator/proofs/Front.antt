@@ -6,10 +6,9 @@ use mathlib.Core.List.{List, _∷_, []}
 use Prim.Native.Nat.{ℕ, zero, suc, _+_, _*_, _≤_, _<_}
 use native.Mathlib.Omega.{arith}
 use lib.ListN.{length}
-use lib.Dec.{leb, eqb, ltb}
+use lib.Dec.{ltb}
 use borrow.Author.Tests.{le-ltb}
-use Rattle.sets.specs.Tests.{unless}
-use Rattle.grammar.specs.Card.{sizesOk, leftsOk, rightsOk, startOf, symbols, productions, formFault}
+use Rattle.grammar.specs.Card.{formFault}
 use Rattle.grammar.proofs.CardLaws.{fault-most}
 use Rattle.lalr.specs.Generator.{refused, generated, writes, cardAnswer}
 use Rattle.lalr.proofs.Finish.{Room, by-card, short-table, short-words, short-halves}

@@ -1,4 +1,4 @@
--- What is printed of a card is told by the card alone, and it fits a buffer of 195,114 bytes.
+-- What is printed of a card is told by the card alone, fits a buffer of 195,114 bytes, and reads back.
 use mathlib.Core.Path.{_≡_, refl, sym, ap, _∙_}
 use mathlib.Core.List.{List}
 use Prim.Native.Nat.{ℕ, _≤_}
@@ -11,6 +11,8 @@ use Rattle.lalr.proofs.AreaLaws.{made-area}
 use Rattle.lalr.proofs.Main.{card-table, table-words}
 use Rattle.lalr.proofs.TableLaws.{made-of, the-form}
 use Rattle.listing.specs.Listing.{tableText, refusalText}
+use Rattle.listing.specs.Numbers.{numbersIn}
+use Rattle.listing.proofs.ReadBack.{table-back-whole, refusal-back}
 use Rattle.listing.proofs.Room.{table-room, refusal-room}
 use Rattle.response.specs.Response.{responseText, cardText}
 use Rattle.response.proofs.Front.{table-front}
@@ -54,3 +56,12 @@ card-room c = go refl (answer-printed c)
     go : {a : Answer} → cardAnswer c ≡ a → Printed a → length (responseText (numbersOf a) (tableOf c)) ≤ 195114
     go e table = table-most c e
     go e (line a r) = rw (refusal-text a (tableOf c) r) (let b = refusal-room (numbersOf a) (small (r .words)) (r .few) in omega arith)
+
+-- and reads back: the numbers of the table, or of the refusal
+pub card-back : (c : List ℕ) → cardAnswer c ≡ made → numbersIn (cardText c) ≡ tableOf c
+unfolding cardText responseText
+card-back c m = rw m (table-back-whole (tableOf c) (card-table c m .long))
+
+pub card-refusal-back : (c : List ℕ) → Refusal (cardAnswer c) → numbersIn (cardText c) ≡ numbersOf (cardAnswer c)
+unfolding cardText
+card-refusal-back c r = ap numbersIn (refusal-text (cardAnswer c) (tableOf c) r) ∙ refusal-back (numbersOf (cardAnswer c))

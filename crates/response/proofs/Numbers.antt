@@ -1,14 +1,11 @@
 -- What the numbers of an answer are, for every card.
 use mathlib.Core.Path.{_≡_, refl}
-use mathlib.Core.Bool.{Bool, true, false}
 use mathlib.Core.List.{List, [], _∷_}
 use Prim.Native.Nat.{ℕ, zero, suc, _+_, _*_, _≤_, _<_}
 use native.Mathlib.Omega.{arith}
 use lib.ListN.{length, getD}
-use lib.Dec.{leb, eqb}
-use Rattle.sets.specs.Tests.{unless}
 use Rattle.grammar.specs.Grammar.{Grammar, Formed}
-use Rattle.grammar.specs.Card.{terminals, nonterminals, productions, symbols, startOf, leftsOk, rightsOk, sizesOk, formFault, grammarOf}
+use Rattle.grammar.specs.Card.{terminals, nonterminals, productions, formFault, grammarOf}
 use Rattle.grammar.proofs.CardLaws.{well-formed, formed, fault-most}
 use Rattle.lr.specs.States.{States}
 use Rattle.lr.specs.Cells.{Action, shifts, reduces, accepts}
