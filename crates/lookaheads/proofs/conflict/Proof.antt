@@ -21,7 +21,7 @@ words-requires c κs = search needs
 
 row-requires : tie.Need-row-requires
 unfolding rowOf
-row-requires c κs = c .before .before .before .before .before .before .before .before .pre .3
+row-requires c κs = c .before .before .before .before .before .before .before .before .pre .4
 
 wide-requires-2 : tie.Need-wide-requires-2
 wide-requires-2 c κs = search needs
@@ -29,7 +29,7 @@ wide-requires-2 c κs = search needs
 add-at : tie.Need-add-at
 add-at c =
     let b1 = c .before in
-    let e = b1 .row .ensures ∙ row-is _ _ in omega (arith, e, b1 .before .before .before .before .before .before .before .before .before .pre .3)
+    let e = b1 .row .ensures ∙ row-is _ _ in omega (arith, e, b1 .before .before .before .before .before .before .before .before .before .pre .4)
 
 at-requires : tie.Need-at-requires
 at-requires c κs = search needs
