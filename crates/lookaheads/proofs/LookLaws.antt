@@ -78,6 +78,16 @@ module _ (c w z : List ℕ) (k q r : ℕ) where
     follows = f .member;
   }
 
+  -- an empty right side leads from q to q alone
+  pub looked-empty : (x d s : ℕ) → x ≡ leftOf c r → d ≡ lengthOf c r → d ≡ 0 → Joins w z k q x 0 s → Holds s (LooksBack c w z k q r)
+  looked-empty x d s e f g j′ = record {
+    only = λ m h. ⊎-elim (λ a. absurd (has-none m a)) (looks q m (here (sym g ∙ f) refl)) (j .only m h);
+    all = λ m y. j .all m (record { transition = y .transition; below = y .below; leaves = path-end (y .leads) (sym g ∙ f); symbol = y .left; member = y .follows });
+  }
+    where
+      j : Joins w z k q (leftOf c r) 0 s
+      j = subst (λ (y : ℕ). Joins w z k q y 0 s) e j′
+
   module _ (left : List ℕ) (s p : ℕ) (l : Looked c w z k q r left s) (low : Lowest left p) where
     pub looked-more : (x : ℕ) (left′ : List ℕ) (s′ : ℕ) → x ≡ leftOf c r → p < 256 → Joins w z k p x s s′ → ((i : ℕ) → item left′ i ≡ (item left i && not (eqb p i))) → Looked c w z k q r left′ s′
     looked-more x left′ s′ e h j′ d = record {

@@ -31,7 +31,11 @@ fn lookahead(c: &[u16], w: &[u32], z: &[u64], q: u32, r: u16) -> u64
     ensures { λ s. ⌜ ((k : ℕ) → Ordered (now (c .entry)) (now (w .entry)) k → Holds s (LooksBack (now (c .entry)) (now (w .entry)) (now (z .entry)) k q r)) ⌝ }
 {
     let x = card::wider(card::left(c, r));
-    let mut left = relations::back(c, w, q, card::wider(r), card::wider(card::length(c, r)));
+    let d = card::wider(card::length(c, r));
+    if d == 0 {
+        return join(w, z, q, x, 0);
+    }
+    let mut left = relations::back(c, w, q, card::wider(r), d);
     let mut s: u64 = 0;
     let mut p = state_sets::lowest(left);
     while p < 256 {
