@@ -160,7 +160,7 @@ fn conflict(c: &[u16], t: &[u16], w: &[u32], z: &[u64], last: &[u32; 128], q: u1
     let p = card::wide(card::productions(c));
     let found = words(c, w, z, last, card::wider(q));
     let s = card::at(t, cells::row(c, q) + card::wide(m));
-    let met = cells::pair(p, s, found, card::wider(m));
+    let met = cells::pair(p, s, &found, card::wider(m));
     let v = met.lower;
     let u = met.upper;
     Clash::At(q, m, v, u)
@@ -179,7 +179,7 @@ fn rows(c: &[u16], t: &mut [u16], w: &[u32], z: &[u64], last: &[u32; 128], n: u1
     'states: while q < n {
         let found = words(c, w, z, last, card::wider(q));
         let accept = acceptance(a, q);
-        let meet = cells::meeting(p, shifts(z, q), found, accept);
+        let meet = cells::meeting(p, shifts(z, q), &found, accept);
         m = 0;
         while m < terminals {
             if sets::has(meet, card::wider(m)) {
@@ -187,7 +187,7 @@ fn rows(c: &[u16], t: &mut [u16], w: &[u32], z: &[u64], last: &[u32; 128], n: u1
             }
             m += 1;
         }
-        cells::write(t, cells::row(c, q), p, found, accept);
+        cells::write(t, cells::row(c, q), p, &found, accept);
         q += 1;
     }
     if q < n {

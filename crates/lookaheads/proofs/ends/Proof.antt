@@ -2,14 +2,10 @@ use borrow.Author.Needs.{needs}
 use Rattle.lookaheads.proofs.LookLaws.{ends-empty, ends-test}
 use Rattle.lookaheads.proofs.ends.Statement.{statement}
 use Rattle.lookaheads.proofs.ends.Tie as tie
-use Rattle.lookaheads.proofs.ends.Reads as reads
-use Rattle.lookaheads.proofs.ends.Lts as lts
 
--- src/lib.rt:81:9
 returns : tie.Need-returns
 returns c = λ c′ w q r ex l. ends-empty c′ w q r
 
--- src/lib.rt:77:1
 returns-2 : tie.Need-returns-2
 returns-2 c = λ c′ w q r ex l. ends-test c′ w q r _ _ (c .if1 .left) ex l
 

@@ -4,78 +4,74 @@ use Rattle.lookaheads.proofs.RowLaws.{size-fits, outcome-free, outcome-
 use borrow.Author.Needs.{needs}
 use Rattle.lookaheads.proofs.fill.Statement.{statement}
 use Rattle.lookaheads.proofs.fill.Tie as tie
-use Rattle.lookaheads.proofs.fill.Reads as reads
-use Rattle.lookaheads.proofs.fill.Lts as lts
-use Rattle.cells.proofs.clear16.Reads as clear16-reads
-use Rattle.cells.proofs.clear32.Reads as clear32-reads
-use Rattle.cells.proofs.clear64.Reads as clear64-reads
-use Rattle.cells.proofs.finish.Reads as finish-reads
-use Rattle.lookaheads.proofs.lasts.Reads as lasts-reads
-use Rattle.lookaheads.proofs.rows.Reads as rows-reads
 
--- src/lib.rt:208:16
 lasts-requires : tie.Need-lasts-requires
 lasts-requires c κs = c .before .before .before .before .pre .ordered .formed
 
--- src/lib.rt:209:9
 rows-requires : tie.Need-rows-requires
-rows-requires c κs = (c .before .before .before .before .before .before .before .before .before .pre, c .before .before .before .before .lasts .ensures)
+rows-requires c κs =
+    let b4 = c .before .before .before .before in
+    let b9 = b4 .before .before .before .before .before in
+    (b9 .pre, b4 .lasts .ensures)
 
--- src/lib.rt:210:5
 clear64-requires : tie.Need-clear64-requires
 clear64-requires c κs = search needs
 
--- src/lib.rt:211:5
 clear32-requires : tie.Need-clear32-requires
 clear32-requires c κs = search needs
 
--- src/lib.rt:214:30
 enum-told : tie.Need-enum-told
 enum-told c = search needs
 
--- src/lib.rt:214:13
 finish-requires : tie.Need-finish-requires
-finish-requires c κs = (omega (arith, well-formed _ (c .before .before .before .before .before .before .before .before .before .before .before .before .before .before .before .before .before .before .before .before .before .before .before .pre .ordered .formed) .limits .terminals-from), size-fits _ _ _ _ _ _ (c .before .before .before .before .before .before .before .before .before .before .before .before .before .before .before .before .before .before .before .before .before .before .before .pre) (c .before .before .before .before .before .before .before .before .before .before .before .before .before .before .before .before .before .before .before .before .before .before .before .pre .ordered), omega (arith, c .before .before .before .before .before .before .before .before .before .before .before .before .before .before .before .before .before .before .before .before .before .before .before .pre .table-long, c .before .before .before .before .before .before .before .before .before .before .before .before .before .rows .ensures _ (c .before .before .before .before .before .before .before .before .before .before .before .before .before .before .before .before .before .before .before .before .before .before .before .pre .ordered) .long))
+finish-requires c κs =
+    let b13 = c .before .before .before .before .before .before .before .before .before .before .before .before .before in
+    let b23 = b13 .before .before .before .before .before .before .before .before .before .before in
+    (omega (arith, well-formed _ (b23 .pre .ordered .formed) .limits .terminals-from), size-fits _ _ _ _ _ _ (b23 .pre) (b23 .pre .ordered), omega (arith, b23 .pre .table-long, b13 .rows .ensures _ (b23 .pre .ordered) .long))
 
--- src/lib.rt:217:19
 enum-known-r : tie.Need-enum-known-r
 enum-known-r c = search needs
 
--- src/lib.rt:218:13
 clear16-requires : tie.Need-clear16-requires
 clear16-requires c κs = search needs
 
--- src/lib.rt:204:1
 same-length : tie.Need-same-length
 same-length c = search needs
 
--- src/lib.rt:204:1
 same-length-2 : tie.Need-same-length-2
 same-length-2 c = search needs
 
--- src/lib.rt:204:1
 same-length-3 : tie.Need-same-length-3
 same-length-3 c = search needs
 
--- src/lib.rt:204:1
 returns : tie.Need-returns
-returns c = record { outcome = λ k o. outcome-free _ _ _ _ _ k (c .before .before .before .before .before .before .before .before .before .before .before .before .before .before .before .before .before .before .before .before .before .before .before .before .before .before .pre) o _ _ _ (c .before .before .before .before .enum-told .given .1) (c .before .before .before .before .before .before .before .before .before .before .before .before .before .before .before .before .rows .ensures k o) (c .before .before .finish .ensures); words = c .before .before .before .before .before .before .before .before .before .before .before .before .clear64 .ensures; halves = c .before .before .before .before .before .before .before .before .clear32 .ensures }
+returns c =
+    let b2 = c .before .before in
+    let b4 = b2 .before .before in
+    let b8 = b4 .before .before .before .before in
+    let b12 = b8 .before .before .before .before in
+    let b16 = b12 .before .before .before .before in
+    let b26 = b16 .before .before .before .before .before .before .before .before .before .before in
+    record { outcome = λ k o. outcome-free _ _ _ _ _ k (b26 .pre) o _ _ _ (b4 .enum-told .given .1) (b16 .rows .ensures k o) (b2 .finish .ensures); words = b12 .clear64 .ensures; halves = b8 .clear32 .ensures }
 
--- src/lib.rt:204:1
 same-length-4 : tie.Need-same-length-4
 same-length-4 c = search needs
 
--- src/lib.rt:204:1
 same-length-5 : tie.Need-same-length-5
 same-length-5 c = search needs
 
--- src/lib.rt:204:1
 same-length-6 : tie.Need-same-length-6
 same-length-6 c = search needs
 
--- src/lib.rt:204:1
 returns-2 : tie.Need-returns-2
-returns-2 c = record { outcome = λ k o. outcome-met _ _ _ _ _ k (c .before .before .before .before .before .before .before .before .before .before .before .before .before .before .before .before .before .before .before .before .before .before .before .before .before .before .before .pre) o _ _ _ _ _ _ _ (c .before .before .before .before .before .r .given .1) (c .before .before .before .before .before .before .before .before .before .before .before .before .before .before .before .before .before .rows .ensures k o) (c .before .before .clear16 .ensures); words = c .before .before .before .before .before .before .before .before .before .before .before .before .before .clear64 .ensures; halves = c .before .before .before .before .before .before .before .before .before .clear32 .ensures }
+returns-2 c =
+    let b2 = c .before .before in
+    let b5 = b2 .before .before .before in
+    let b9 = b5 .before .before .before .before in
+    let b13 = b9 .before .before .before .before in
+    let b17 = b13 .before .before .before .before in
+    let b27 = b17 .before .before .before .before .before .before .before .before .before .before in
+    record { outcome = λ k o. outcome-met _ _ _ _ _ k (b27 .pre) o _ _ _ _ _ _ _ (b5 .r .given .1) (b17 .rows .ensures k o) (b2 .clear16 .ensures); words = b13 .clear64 .ensures; halves = b9 .clear32 .ensures }
 
 pub fill-spec : {M : Type 1} → statement M
 fill-spec =

@@ -10,15 +10,6 @@ use Rattle.transitions.specs.Data.{Ordered}
 use Rattle.lookaheads.proofs.LookLaws.{Looked, looked-empty, looked-none, looked-more, looked-end}
 use Rattle.lookaheads.proofs.lookahead.Statement.{statement}
 use Rattle.lookaheads.proofs.lookahead.Tie as tie
-use Rattle.lookaheads.proofs.lookahead.Reads as reads
-use Rattle.lookaheads.proofs.lookahead.Lts as lts
-use Rattle.card.proofs.left.Reads as left-reads
-use Rattle.card.proofs.length.Reads as length-reads
-use Rattle.card.proofs.wider.Reads as wider-reads
-use Rattle.lookaheads.proofs.join.Reads as join-reads
-use Rattle.relations.proofs.back.Reads as back-reads
-use Rattle.state_sets.proofs.lowest.Reads as lowest-reads
-use Rattle.state_sets.proofs.without.Reads as without-reads
 
 abbrev Inv-loop : tie.InvT-loop
 Inv-loop c w z q r x d left₀ s₀ p₀ left s p = Lowest left p × ((k : ℕ) → Ordered c w k → Looked c w z k q r left s)
@@ -26,67 +17,79 @@ Inv-loop c w z q r x d left₀ s₀ p₀ left s p = Lowest left p × ((k : ℕ) 
 abbrev μ-loop : tie.MeasureT-loop
 μ-loop c w z q r x d left₀ s₀ p₀ left s p = count (item left) 256
 
--- src/lib.rt:33:25
 left-requires : tie.Need-left-requires Inv-loop μ-loop
 left-requires c κs = search needs
 
--- src/lib.rt:33:9
 wider-requires : tie.Need-wider-requires Inv-loop μ-loop
 wider-requires c κs = search needs
 
--- src/lib.rt:34:25
 length-requires : tie.Need-length-requires Inv-loop μ-loop
 length-requires c κs = search needs
 
--- src/lib.rt:34:9
 wider-requires-2 : tie.Need-wider-requires-2 Inv-loop μ-loop
 wider-requires-2 c κs = search needs
 
--- src/lib.rt:36:9
 join-requires : tie.Need-join-requires Inv-loop μ-loop
-join-requires c κs = (c .before .before .before .before .before .before .before .before .pre .1, c .before .before .before .before .before .before .before .before .pre .3)
+join-requires c κs =
+    let b8 = c .before .before .before .before .before .before .before .before in
+    (b8 .pre .1, b8 .pre .3)
 
--- src/lib.rt:36:9
 returns : tie.Need-returns Inv-loop μ-loop
-returns c = λ k o. looked-empty _ _ _ k _ _ _ _ _ (c .before .before .before .before .wider .ensures ∙ c .before .before .before .before .before .left .ensures) (c .before .before .wider2 .ensures ∙ c .before .before .before .length .ensures) (c .before .if1 .taken) (c .join .ensures _ k o)
+returns c =
+    let b1 = c .before in
+    let b2 = b1 .before in
+    let b3 = b2 .before in
+    let b4 = b3 .before in
+    let b5 = b4 .before in
+    λ k o. looked-empty _ _ _ k _ _ _ _ _ (b4 .wider .ensures ∙ b5 .left .ensures) (b2 .wider2 .ensures ∙ b3 .length .ensures) (b1 .if1 .taken) (c .join .ensures _ k o)
 
--- src/lib.rt:38:45
 wider-requires-3 : tie.Need-wider-requires-3 Inv-loop μ-loop
 wider-requires-3 c κs = search needs
 
--- src/lib.rt:38:9
 back-requires : tie.Need-back-requires Inv-loop μ-loop
-back-requires c κs = (c .before .before .before .before .before .before .before .before .before .pre .0, c .before .before .before .before .before .before .before .before .before .pre .1, omega (arith, c .before .before .before .before .before .before .before .before .before .pre .2, c .wider3 .ensures), rw (c .before .before .wider2 .ensures, c .before .before .before .length .ensures, c .wider3 .ensures) (omega arith))
+back-requires c κs =
+    let b2 = c .before .before in
+    let b3 = b2 .before in
+    let b9 = b3 .before .before .before .before .before .before in
+    (b9 .pre .0, b9 .pre .1, omega (arith, b9 .pre .2, c .wider3 .ensures), rw (b2 .wider2 .ensures, b3 .length .ensures, c .wider3 .ensures) (omega arith))
 
--- src/lib.rt:40:9
 lowest-requires : tie.Need-lowest-requires Inv-loop μ-loop
 lowest-requires c κs = search needs
 
--- src/lib.rt:41:5
 loop-holds : tie.Need-loop-holds Inv-loop μ-loop
-loop-holds c = (c .lowest .ensures, λ k o. looked-none _ _ _ k _ _ _ _ _ (c .before .before .wider3 .ensures) (c .before .before .before .before .wider2 .ensures ∙ c .before .before .before .before .before .length .ensures) (c .before .back .ensures))
+loop-holds c =
+    let b1 = c .before in
+    let b2 = b1 .before in
+    let b4 = b2 .before .before in
+    let b5 = b4 .before in
+    (c .lowest .ensures, λ k o. looked-none _ _ _ k _ _ _ _ _ (b2 .wider3 .ensures) (b4 .wider2 .ensures ∙ b5 .length .ensures) (b1 .back .ensures))
 
--- src/lib.rt:42:9
 join-requires-2 : tie.Need-join-requires-2 Inv-loop μ-loop
 join-requires-2 c κs = (omega (arith, c .loop-test .taken), c .before .before .before .before .before .before .before .before .before .before .before .before .before .pre .3)
 
--- src/lib.rt:43:13
 without-requires : tie.Need-without-requires Inv-loop μ-loop
 without-requires c κs = c .before .loop-test .taken
 
--- src/lib.rt:45:9
 lowest-requires-2 : tie.Need-lowest-requires-2 Inv-loop μ-loop
 lowest-requires-2 c κs = search needs
 
--- src/lib.rt:41:5
 loop-less : tie.Need-loop-less Inv-loop μ-loop
-loop-less c = out-less _ _ _ (c .before .before .before .before .loop .inv .0 .here (c .before .before .before .loop-test .taken)) (c .before .without .ensures) 256 (c .before .before .before .loop-test .taken)
+loop-less c =
+    let b1 = c .before in
+    let b3 = b1 .before .before in
+    let b4 = b3 .before in
+    out-less _ _ _ (b4 .loop .inv .0 .here (b3 .loop-test .taken)) (b1 .without .ensures) 256 (b3 .loop-test .taken)
 
--- src/lib.rt:41:5
 loop-again : tie.Need-loop-again Inv-loop μ-loop
-loop-again c = (c .lowest2 .ensures, λ k o. looked-more _ _ _ k _ _ _ _ _ (c .before .before .before .before .loop .inv .1 k o) (c .before .before .before .before .loop .inv .0) _ _ _ (c .before .before .before .before .before .before .before .before .before .before .before .wider .ensures ∙ c .before .before .before .before .before .before .before .before .before .before .before .before .left .ensures) (c .before .before .before .loop-test .taken) (c .before .before .join2 .ensures _ k o) (c .before .without .ensures))
+loop-again c =
+    let b1 = c .before in
+    let b2 = b1 .before in
+    let b3 = b2 .before in
+    let b4 = b3 .before in
+    let b11 = b4 .before .before .before .before .before .before .before in
+    let b12 = b11 .before in
+    (c .lowest2 .ensures, λ k o. looked-more _ _ _ k _ _ _ _ _ (b4 .loop .inv .1 k o) (b4 .loop .inv .0) _ _ _ (b11 .wider .ensures ∙ b12 .left .ensures) (b3 .loop-test .taken) (b2 .join2 .ensures _ k o) (b1 .without .ensures))
 
--- src/lib.rt:29:1
 returns-2 : tie.Need-returns-2 Inv-loop μ-loop
 returns-2 c = λ k o. looked-end _ _ _ k _ _ _ _ _ (c .before .loop .inv .1 k o) (c .before .loop .inv .0) o (c .loop-test .left)
 
