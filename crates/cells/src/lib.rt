@@ -13,9 +13,9 @@ ghost use Rattle.tables.specs.Layout.{rowOf};
 ghost use Rattle.cells.specs.Areas.{tableArea, Arrays, Header};
 
 // The terminals at which two numbers of a state meet: it shifts `shifts`, production r has the lookaheads words[r], and it accepts at `accept`.
-pub fn meeting(p: usize, shifts: u64, words: [u64; 128], accept: u64) -> u64
+pub fn meeting(p: usize, shifts: u64, words: &[u64; 128], accept: u64) -> u64
     requires { ⌜ p ≤ 128 ⌝ }
-    ensures { λ r. ⌜ ((m s : ℕ) → s < 1024 → (bit shifts m ≡ true) ↔ (s ≢ 0) → (bit r m ≡ true) ↔ Two (Numbers p s words accept m)) ⌝ }
+    ensures { λ r. ⌜ ((m s : ℕ) → s < 1024 → (bit shifts m ≡ true) ↔ (s ≢ 0) → (bit r m ≡ true) ↔ Two (Numbers p s (now (words .entry)) accept m)) ⌝ }
 {
     let mut seen = shifts;
     let mut twice: u64 = 0;
@@ -30,9 +30,9 @@ pub fn meeting(p: usize, shifts: u64, words: [u64; 128], accept: u64) -> u64
 }
 
 // The number of the lowest production from `start` on that has the lookahead m; 4096 where there is none.
-fn lowest(p: usize, words: [u64; 128], m: u32, start: usize) -> u16
+fn lowest(p: usize, words: &[u64; 128], m: u32, start: usize) -> u16
     requires { ⌜ p ≤ 128 ⌝ }
-    ensures { λ v. ⌜ Sought p words m start v ⌝ }
+    ensures { λ v. ⌜ Sought p (now (words .entry)) m start v ⌝ }
 {
     let mut r = start;
     while r < p {
@@ -50,9 +50,9 @@ pub struct Met {
 }
 
 // The two lowest numbers at the terminal m, where two meet; s is the state that m is shifted to, 0 where it is not.
-pub fn pair(p: usize, s: u16, words: [u64; 128], m: u32) -> Met
+pub fn pair(p: usize, s: u16, words: &[u64; 128], m: u32) -> Met
     requires { ⌜ p ≤ 128 ⌝ }
-    ensures { λ r. ⌜ ((accept : ℕ) → s < 1024 → Two (Numbers p s words accept m) → Lowest (Numbers p s words accept m) (r .lower) (r .upper)) ⌝ }
+    ensures { λ r. ⌜ ((accept : ℕ) → s < 1024 → Two (Numbers p s (now (words .entry)) accept m) → Lowest (Numbers p s (now (words .entry)) accept m) (r .lower) (r .upper)) ⌝ }
 {
     let a = lowest(p, words, m, 0);
     if s != 0 {
@@ -76,9 +76,9 @@ fn put(t: &mut [u16], b: usize, word: u64, v: u16)
 }
 
 // Writes the reductions and the acceptance of a state into its row, which begins at b.
-pub fn write(t: &mut [u16], b: usize, p: usize, words: [u64; 128], accept: u64)
+pub fn write(t: &mut [u16], b: usize, p: usize, words: &[u64; 128], accept: u64)
     requires { ⌜ (p ≤ 128) × (b + 64 ≤ length (now t)) ⌝ }
-    ensures { λ _. ⌜ Row b p words accept (now (t .entry)) (now (t .exit)) ⌝ }
+    ensures { λ _. ⌜ Row b p (now (words .entry)) accept (now (t .entry)) (now (t .exit)) ⌝ }
 {
     let mut r: usize = 0;
     while r < p {

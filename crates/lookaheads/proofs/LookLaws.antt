@@ -27,7 +27,7 @@ use Rattle.transitions.proofs.SymbolLaws.{symbol-is}
 use Rattle.relations.proofs.PathLaws.{path-end}
 use Rattle.cells.proofs.WordLaws.{below-suc}
 use Rattle.lookaheads.specs.LooksBack.{LooksBack}
-use Rattle.lookaheads.specs.Joins.{Follows, Joins, PassedOver, Accepts}
+use Rattle.lookaheads.specs.Joins.{Follows, Joins, Last, PassedOver, Accepts}
 
 pub holds-none : {P : ℕ → Type 0} → ((m : ℕ) → P m → ⊥) → Holds 0 P
 holds-none n = record { only = λ m h. absurd (has-none m h); all = λ m h. absurd (n m h) }
@@ -78,6 +78,16 @@ module _ (c w z : List ℕ) (k q r : ℕ) where
     follows = f .member;
   }
 
+  -- an empty right side leads from q to q alone
+  pub looked-empty : (x d s : ℕ) → x ≡ leftOf c r → d ≡ lengthOf c r → d ≡ 0 → Joins w z k q x 0 s → Holds s (LooksBack c w z k q r)
+  looked-empty x d s e f g j′ = record {
+    only = λ m h. ⊎-elim (λ a. absurd (has-none m a)) (looks q m (here (sym g ∙ f) refl)) (j .only m h);
+    all = λ m y. j .all m (record { transition = y .transition; below = y .below; leaves = path-end (y .leads) (sym g ∙ f); symbol = y .left; member = y .follows });
+  }
+    where
+      j : Joins w z k q (leftOf c r) 0 s
+      j = subst (λ (y : ℕ). Joins w z k q y 0 s) e j′
+
   module _ (left : List ℕ) (s p : ℕ) (l : Looked c w z k q r left s) (low : Lowest left p) where
     pub looked-more : (x : ℕ) (left′ : List ℕ) (s′ : ℕ) → x ≡ leftOf c r → p < 256 → Joins w z k p x s s′ → ((i : ℕ) → item left′ i ≡ (item left i && not (eqb p i))) → Looked c w z k q r left′ s′
     looked-more x left′ s′ e h j′ d = record {
@@ -123,19 +133,26 @@ module _ {G : ℕ → ℕ → ℕ → Type 0} {f : ℕ → ℕ} {d q : ℕ} wher
 pub never-leads : (c w : List ℕ) (q r p : ℕ) → 0 < lengthOf c r → (symbolAt c r (lengthOf c r - 1) ≡ enteringOf w q → ⊥) → Leads c w r (lengthOf c r) q p → ⊥
 never-leads c w q r p h n l = let s = last-step l h in n (sym (s .1 .symbol))
 
-pub start-is : (c w : List ℕ) (k r r′ b : ℕ) → Ordered c w k → r < productions c → r′ ≡ r → b ≡ startingOf w r′ → b ≡ startOf c r
-start-is c w k r r′ b o h e f = f ∙ ap (startingOf w) e ∙ o .starts r h
+pub last-none : (c : List ℕ) (r d : ℕ) → d ≡ lengthOf c r → d ≡ 0 → Last c r 0
+last-none c r d ed e = record { none = λ h. refl; some = λ h. absurd (omega arith) }
 
--- the test that is made
-pub ends-test : (c w : List ℕ) (q r d b v v′ x : ℕ) → d ≡ lengthOf c r → (d ≡ 0 → ⊥) → b ≡ startOf c r → v ≡ symbolOf c (b + (d - 1)) → v′ ≡ v → x ≡ enteringOf w q → PassedOver c w q r (eqb v′ x)
-ends-test c w q r d b v v′ x ed n eb ev ev′ ex = record {
-  never = λ f p l.
-      never-leads c w q r p (omega arith)
-      (λ g. true≢false (sym (eq-eqb v′ x (ev′ ∙ symbol-is c r b (d - 1) v eb ev ∙ ap (λ (y : ℕ). symbolAt c r (y - 1)) ed ∙ g ∙ sym ex)) ∙ f)) l;
+pub last-some : (c : List ℕ) (r d b v v′ : ℕ) → d ≡ lengthOf c r → (d ≡ 0 → ⊥) → b ≡ startOf c r → v ≡ symbolOf c (b + (d - 1)) → v′ ≡ v → Last c r v′
+last-some c r d b v v′ ed n eb ev ev′ = record {
+  none = λ h. absurd (n (ed ∙ h));
+  some = λ h. ev′ ∙ symbol-is c r b (d - 1) v eb ev ∙ ap (λ (y : ℕ). symbolAt c r (y - 1)) ed;
 }
 
 pub ends-empty : (c w : List ℕ) (q r : ℕ) → PassedOver c w q r true
 ends-empty c w q r = record { never = λ f. absurd (true≢false f) }
+
+-- the test that is made
+pub ends-test : (c w : List ℕ) (q r v x : ℕ) → (v ≡ 0 → ⊥) → x ≡ enteringOf w q → Last c r v → PassedOver c w q r (eqb v x)
+ends-test c w q r v x n ex last = record {
+  never = λ f p l. never-leads c w q r p h (λ g. true≢false (sym (eq-eqb v x (last .some h ∙ g ∙ sym ex)) ∙ f)) l;
+}
+  where
+    h : 0 < lengthOf c r
+    h = ⊎-elim (λ a. a) (λ a. absurd (n (last .none (omega arith)))) (lt-or-ge 0 (lengthOf c r))
 
 pub never-looks : (c w z : List ℕ) (k q r : ℕ) (b : Bool) → PassedOver c w q r b → b ≡ false → Holds 0 (LooksBack c w z k q r)
 never-looks c w z k q r b e f = holds-none (λ m y. e .never f (leavesOf w (y .transition)) (y .leads))

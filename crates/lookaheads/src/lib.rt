@@ -3,14 +3,15 @@ ghost use mathlib.Core.Path.{_≡_};
 ghost use mathlib.Core.List.{List};
 ghost use Prim.Native.Nat.{ℕ, _+_, _<_, _≤_};
 ghost use lib.ListN.{length, getD};
-ghost use Rattle.grammar.specs.Card.{terminals, productions};
+ghost use Rattle.grammar.specs.Card.{terminals, productions, lengthOf, startOf, formFault};
 ghost use Rattle.tables.specs.Layout.{rowOf};
+ghost use Rattle.transitions.specs.Area.{enteringOf};
 ghost use Rattle.transitions.specs.Next.{Numbered};
 ghost use Rattle.transitions.specs.Data.{Ordered, Holds};
 ghost use Rattle.cells.specs.Actions.{Act};
 ghost use Rattle.cells.specs.Words.{Two};
 ghost use Rattle.lookaheads.specs.LooksBack.{LooksBack};
-ghost use Rattle.lookaheads.specs.Joins.{Joins, PassedOver, Accepts};
+ghost use Rattle.lookaheads.specs.Joins.{Joins, Last, Lasts, PassedOver, Accepts};
 ghost use Rattle.lookaheads.specs.Outcome.{Stage, Stands, Named, Searched, Filled};
 
 // s and the set of the transition from state p by the nonterminal x, where there is one.
@@ -31,7 +32,11 @@ fn lookahead(c: &[u16], w: &[u32], z: &[u64], q: u32, r: u16) -> u64
     ensures { λ s. ⌜ ((k : ℕ) → Ordered (now (c .entry)) (now (w .entry)) k → Holds s (LooksBack (now (c .entry)) (now (w .entry)) (now (z .entry)) k q r)) ⌝ }
 {
     let x = card::wider(card::left(c, r));
-    let mut left = relations::back(c, w, q, card::wider(r), card::wider(card::length(c, r)));
+    let d = card::wider(card::length(c, r));
+    if d == 0 {
+        return join(w, z, q, x, 0);
+    }
+    let mut left = relations::back(c, w, q, card::wider(r), d);
     let mut s: u64 = 0;
     let mut p = state_sets::lowest(left);
     while p < 256 {
@@ -43,41 +48,69 @@ fn lookahead(c: &[u16], w: &[u32], z: &[u64], q: u32, r: u16) -> u64
     s
 }
 
-// Whether production r is empty, or ends with the symbol under which state q is entered.
-fn ends(c: &[u16], w: &[u32], q: u32, r: u16) -> bool
-    requires { ⌜ ((k : ℕ) × Ordered (now c) (now w) k) × (r < productions (now c)) ⌝ }
-    ensures { λ b. ⌜ PassedOver (now (c .entry)) (now (w .entry)) q r b ⌝ }
+// The last of the d symbols of a production, which begin at b, or 0 where there is none.
+fn last(c: &[u16], b: u32, d: u32) -> u32
+    requires { ⌜ b + d ≤ 512 ⌝ }
+    ensures { λ v. ⌜ ((r : ℕ) → b ≡ startOf (now (c .entry)) r → d ≡ lengthOf (now (c .entry)) r → Last (now (c .entry)) r v) ⌝ }
 {
-    let d = card::wider(card::length(c, r));
     if d == 0 {
-        return true;
+        return 0;
     }
-    let b = transitions::starting(w, card::wider(r));
-    card::wider(card::symbol(c, b + (d - 1))) == transitions::entering(w, q)
+    card::wider(card::symbol(c, b + (d - 1)))
 }
 
-// The same lookaheads; most productions are passed over.
-fn word(c: &[u16], w: &[u32], z: &[u64], q: u32, r: u16) -> u64
-    requires { ⌜ ((k : ℕ) × Ordered (now c) (now w) k) × (q < 256) × (r < productions (now c)) × (2048 ≤ length (now z)) ⌝ }
+// The last symbols of all productions.
+fn lasts(c: &[u16]) -> [u32; 128]
+    requires { ⌜ formFault (now c) ≡ 0 ⌝ }
+    ensures { λ s. ⌜ Lasts (now (c .entry)) s (productions (now (c .entry))) ⌝ }
+{
+    let n = card::productions(c);
+    let mut s = [0u32; 128];
+    let mut b: u32 = 0;
+    let mut r: u16 = 0;
+    while r < n {
+        let d = card::wider(card::length(c, r));
+        let i = card::wide(r);
+        s[i] = last(c, b, d);
+        b += d;
+        r += 1;
+    }
+    s
+}
+
+// Whether a production whose last symbol is v is empty, or ends with the symbol x.
+fn ends(v: u32, x: u32) -> bool
+    ensures { λ e. ⌜ ((c w : List ℕ) (q r : ℕ) → x ≡ enteringOf w q → Last c r v → PassedOver c w q r e) ⌝ }
+{
+    if v == 0 {
+        return true;
+    }
+    v == x
+}
+
+// The same lookaheads; most productions are passed over. State q is entered by x, and v is the last symbol of production r.
+fn word(c: &[u16], w: &[u32], z: &[u64], q: u32, x: u32, r: u16, v: u32) -> u64
+    requires { ⌜ ((k : ℕ) × Ordered (now c) (now w) k) × (q < 256) × (r < productions (now c)) × (2048 ≤ length (now z)) × (x ≡ enteringOf (now w) q) × Last (now c) r v ⌝ }
     ensures { λ s. ⌜ ((k : ℕ) → Ordered (now (c .entry)) (now (w .entry)) k → Holds s (LooksBack (now (c .entry)) (now (w .entry)) (now (z .entry)) k q r)) ⌝ }
 {
-    if ends(c, w, q, r) {
+    if ends(v, x) {
         return lookahead(c, w, z, q, r);
     }
     0
 }
 
 // The lookaheads of all productions in state q.
-pub fn words(c: &[u16], w: &[u32], z: &[u64], q: u32) -> [u64; 128]
-    requires { ⌜ ((k : ℕ) × Ordered (now c) (now w) k) × (q < 256) × (2048 ≤ length (now z)) ⌝ }
+fn words(c: &[u16], w: &[u32], z: &[u64], last: &[u32; 128], q: u32) -> [u64; 128]
+    requires { ⌜ ((k : ℕ) × Ordered (now c) (now w) k) × (q < 256) × (2048 ≤ length (now z)) × Lasts (now c) (now last) (productions (now c)) ⌝ }
     ensures { λ s. ⌜ ((k : ℕ) → Ordered (now (c .entry)) (now (w .entry)) k → (r : ℕ) → r < productions (now (c .entry)) → Holds (getD s r 0) (LooksBack (now (c .entry)) (now (w .entry)) (now (z .entry)) k q r)) ⌝ }
 {
     let n = card::productions(c);
+    let x = transitions::entering(w, q);
     let mut s = [0u64; 128];
     let mut r: u16 = 0;
     while r < n {
         let i = card::wide(r);
-        s[i] = word(c, w, z, q, r);
+        s[i] = word(c, w, z, q, x, r, last[i]);
         r += 1;
     }
     s
@@ -119,24 +152,24 @@ pub enum Clash {
 }
 
 // The two lowest numbers at state q and terminal m, where two meet.
-fn conflict(c: &[u16], t: &[u16], w: &[u32], z: &[u64], q: u16, m: u16) -> Clash
-    requires { ⌜ ((k : ℕ) × Ordered (now c) (now w) k) × (q < 256) × (2048 ≤ length (now z)) × (rowOf (now c) q ≤ 32004) ⌝ }
+fn conflict(c: &[u16], t: &[u16], w: &[u32], z: &[u64], last: &[u32; 128], q: u16, m: u16) -> Clash
+    requires { ⌜ ((k : ℕ) × Ordered (now c) (now w) k) × (q < 256) × (2048 ≤ length (now z)) × Lasts (now c) (now last) (productions (now c)) × (rowOf (now c) q ≤ 32004) ⌝ }
     ensures { λ r. ⌜ ((n k : ℕ) (next : ℕ → ℕ → ℕ) → Ordered (now (c .entry)) (now (w .entry)) k → Numbered (now (c .entry)) n next → m < terminals (now (c .entry))
         → getD (now (t .entry)) (rowOf (now (c .entry)) q + m) 0 ≡ next q m → Two (Act (now (c .entry)) next (LooksBack (now (c .entry)) (now (w .entry)) (now (z .entry)) k q) q m)
         → Named (Act (now (c .entry)) next (LooksBack (now (c .entry)) (now (w .entry)) (now (z .entry)) k q) q m) q m r) ⌝ }
 {
     let p = card::wide(card::productions(c));
-    let found = words(c, w, z, card::wider(q));
+    let found = words(c, w, z, last, card::wider(q));
     let s = card::at(t, cells::row(c, q) + card::wide(m));
-    let met = cells::pair(p, s, found, card::wider(m));
+    let met = cells::pair(p, s, &found, card::wider(m));
     let v = met.lower;
     let u = met.upper;
     Clash::At(q, m, v, u)
 }
 
 // Writes the reductions and the acceptance of all states, up to the first cell where two actions meet.
-fn rows(c: &[u16], t: &mut [u16], w: &[u32], z: &[u64], n: u16) -> Clash
-    requires { ⌜ Stage (now c) (now t) (now w) (now z) n ⌝ }
+fn rows(c: &[u16], t: &mut [u16], w: &[u32], z: &[u64], last: &[u32; 128], n: u16) -> Clash
+    requires { ⌜ Stage (now c) (now t) (now w) (now z) n × Lasts (now c) (now last) (productions (now c)) ⌝ }
     ensures { λ r. ⌜ ((k : ℕ) → Ordered (now (c .entry)) (now (w .entry)) k → Searched (now (c .entry)) (Stands (now (c .entry)) (now (t .entry)) (now (w .entry)) (now (z .entry)) n k) n (now (t .entry)) (now (t .exit)) r) ⌝ }
 {
     let terminals = card::terminals(c);
@@ -145,9 +178,9 @@ fn rows(c: &[u16], t: &mut [u16], w: &[u32], z: &[u64], n: u16) -> Clash
     let mut q: u16 = 0;
     let mut m: u16 = 0;
     'states: while q < n {
-        let found = words(c, w, z, card::wider(q));
+        let found = words(c, w, z, last, card::wider(q));
         let accept = acceptance(a, q);
-        let meet = cells::meeting(p, shifts(z, q), found, accept);
+        let meet = cells::meeting(p, shifts(z, q), &found, accept);
         m = 0;
         while m < terminals {
             if sets::has(meet, card::wider(m)) {
@@ -155,11 +188,11 @@ fn rows(c: &[u16], t: &mut [u16], w: &[u32], z: &[u64], n: u16) -> Clash
             }
             m += 1;
         }
-        cells::write(t, cells::row(c, q), p, found, accept);
+        cells::write(t, cells::row(c, q), p, &found, accept);
         q += 1;
     }
     if q < n {
-        return conflict(c, t, w, z, q, m);
+        return conflict(c, t, w, z, last, q, m);
     }
     Clash::Free
 }
@@ -169,7 +202,8 @@ pub fn fill(c: &[u16], t: &mut [u16], w: &mut [u32], z: &mut [u64], n: u16) -> C
     requires { ⌜ Stage (now c) (now t) (now w) (now z) n ⌝ }
     ensures { λ r. ⌜ Filled (now (c .entry)) (now (t .entry)) (now (w .entry)) (now (z .entry)) n (now (t .exit)) (now (w .exit)) (now (z .exit)) r ⌝ }
 {
-    let r = rows(c, t, w, z, n);
+    let last = lasts(c);
+    let r = rows(c, t, w, z, &last, n);
     cells::clear64(z, 0, 8192);
     cells::clear32(w, 0, 16384);
     match r {

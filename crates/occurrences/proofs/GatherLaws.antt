@@ -205,10 +205,6 @@ module _ (c w : List ℕ) (r s i : ℕ) (ei : i ≡ r) (hr : r < 128) where
         (eq-or-lt-of-le (let v : u ≤ r = omega arith in v));
   }
 
-pub start-more : (c : List ℕ) (r s n : ℕ) → s ≡ startOf c r → n ≡ lengthOf c r → s + n ≡ startOf c (r + 1)
-unfolding startOf
-start-more c r s n es en = rw (add-one, es, en)
-
 pub gather-few : (c : List ℕ) (e : ℕ) (w : List ℕ) (m : ℕ) → formFault c ≡ 0 → Gathered c e w (productions c) (lengthOf c (productions c)) m → m ≤ 512
 gather-few c e w m ff G = let F = well-formed c ff in let a = G .most in omega (arith, F .sum, F .limits .symbols-to)
 

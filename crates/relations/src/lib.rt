@@ -67,6 +67,9 @@ pub fn back(c: &[u16], w: &[u32], q: u32, r: u32, d: u32) -> [u64; 4]
     let mut s = state_sets::with(state_sets::empty(), q);
     let mut i = d;
     while 0 < i {
+        if state_sets::lowest(s) == 256 {
+            return s;
+        }
         i -= 1;
         let t = predecessors(w, s, card::wider(card::symbol(c, b + i)));
         s = t;

@@ -3,6 +3,7 @@ use mathlib.Core.Path.{_≡_, ap, _∙_}
 use mathlib.Core.List.{List}
 use Prim.Native.Nat.{ℕ, _+_, _≤_, _<_}
 use native.Mathlib.Omega.{arith}
+use native.Mathlib.Numerals.{add-one}
 use Rattle.grammar.specs.Card.{terminals, nonterminals, productions, lengthOf, startOf, symbolOf, formFault}
 use Rattle.grammar.proofs.CardLaws.{well-formed, start-mono}
 use Rattle.transitions.specs.Occurrences.{symbolAt}
@@ -21,3 +22,8 @@ unfolding symbolAt
 symbol-high c r i f h l =
     let w = well-formed c f in
     w .rights (startOf c r + i) (omega (arith, start-mono c (productions c) r h, w .sum)) .1
+
+-- where the symbols of the next production begin
+pub start-more : (c : List ℕ) (r s n : ℕ) → s ≡ startOf c r → n ≡ lengthOf c r → s + n ≡ startOf c (r + 1)
+unfolding startOf
+start-more c r s n es en = rw (add-one, es, en)

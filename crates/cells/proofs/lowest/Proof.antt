@@ -8,10 +8,10 @@ use Rattle.cells.proofs.lowest.Statement.{statement}
 use Rattle.cells.proofs.lowest.Tie as tie
 
 abbrev Inv-loop : tie.InvT-loop
-Inv-loop p m start words r₀ r = (start ≤ r) × Gap words m start r
+Inv-loop p words m start r₀ r = (start ≤ r) × Gap words m start r
 
 abbrev μ-loop : tie.MeasureT-loop
-μ-loop p m start words r₀ r = p - r
+μ-loop p words m start r₀ r = p - r
 
 loop-holds : tie.Need-loop-holds Inv-loop μ-loop
 loop-holds c = (omega arith, λ k h g. absurd (omega arith))
@@ -19,8 +19,8 @@ loop-holds c = (omega arith, λ k h g. absurd (omega arith))
 mul-has : tie.Need-mul-has Inv-loop μ-loop
 mul-has c = search needs
 
-array-read-has : tie.Need-array-read-has Inv-loop μ-loop
-array-read-has c = search needs
+element-copy-out-has : tie.Need-element-copy-out-has Inv-loop μ-loop
+element-copy-out-has c = search needs
 
 has-requires : tie.Need-has-requires Inv-loop μ-loop
 has-requires c κs = search needs
@@ -32,7 +32,11 @@ add-result : tie.Need-add-result Inv-loop μ-loop
 add-result c = search needs
 
 returns : tie.Need-returns Inv-loop μ-loop
-returns c = found _ (c .before .before .before .loop .inv .0) (c .before .before .loop-test .taken) (sym (c .before .has .ensures) ∙ c .if1 .taken) (c .before .before .before .loop .inv .1)
+returns c =
+    let b1 = c .before in
+    let b3 = b1 .before .before in
+    let b4 = b3 .before in
+    found _ (b4 .loop .inv .0) (b3 .loop-test .taken) (sym (b1 .has .ensures) ∙ c .if1 .taken) (b4 .loop .inv .1)
 
 add-r : tie.Need-add-r Inv-loop μ-loop
 add-r c = search needs
@@ -43,9 +47,9 @@ loop-less c = search needs
 loop-again : tie.Need-loop-again Inv-loop μ-loop
 loop-again c =
     let b1 = c .before in
-    let b3 = b1 .before .before in
-    let b4 = b3 .before in
-    (omega (arith, b3 .loop .inv .0), gap-more (b4 .args .t2) (b4 .args .m) _ _ _ (b1 .has .ensures) (c .if1 .left) (b3 .loop .inv .1))
+    let b4 = b1 .before .before .before in
+    let b5 = b4 .before in
+    (omega (arith, b4 .loop .inv .0), gap-more (b5 .args .words .now) (b5 .args .m) _ _ _ (b1 .has .ensures) (c .if1 .left) (b4 .loop .inv .1))
 
 returns-2 : tie.Need-returns-2 Inv-loop μ-loop
 returns-2 c = missing (λ k h g. c .before .loop .inv .1 k h (omega arith))
@@ -58,7 +62,7 @@ lowest-spec =
     μ-loop
     loop-holds
     mul-has
-    array-read-has
+    element-copy-out-has
     has-requires
     cast-result
     add-result

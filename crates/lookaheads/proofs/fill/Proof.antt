@@ -1,12 +1,18 @@
 use native.Mathlib.Omega.{arith}
-use borrow.Author.Needs.{needs}
 use Rattle.grammar.proofs.CardLaws.{well-formed}
 use Rattle.lookaheads.proofs.RowLaws.{size-fits, outcome-free, outcome-met}
+use borrow.Author.Needs.{needs}
 use Rattle.lookaheads.proofs.fill.Statement.{statement}
 use Rattle.lookaheads.proofs.fill.Tie as tie
 
+lasts-requires : tie.Need-lasts-requires
+lasts-requires c κs = c .before .before .before .before .pre .ordered .formed
+
 rows-requires : tie.Need-rows-requires
-rows-requires c κs = search needs
+rows-requires c κs =
+    let b4 = c .before .before .before .before in
+    let b9 = b4 .before .before .before .before .before in
+    (b9 .pre, b4 .lasts .ensures)
 
 clear64-requires : tie.Need-clear64-requires
 clear64-requires c κs = search needs
@@ -20,8 +26,8 @@ enum-told c = search needs
 finish-requires : tie.Need-finish-requires
 finish-requires c κs =
     let b13 = c .before .before .before .before .before .before .before .before .before .before .before .before .before in
-    let b21 = b13 .before .before .before .before .before .before .before .before in
-    (omega (arith, well-formed _ (b21 .pre .ordered .formed) .limits .terminals-from), size-fits _ _ _ _ _ _ (b21 .pre) (b21 .pre .ordered), omega (arith, b21 .pre .table-long, b13 .rows .ensures _ (b21 .pre .ordered) .long))
+    let b23 = b13 .before .before .before .before .before .before .before .before .before .before in
+    (omega (arith, well-formed _ (b23 .pre .ordered .formed) .limits .terminals-from), size-fits _ _ _ _ _ _ (b23 .pre) (b23 .pre .ordered), omega (arith, b23 .pre .table-long, b13 .rows .ensures _ (b23 .pre .ordered) .long))
 
 enum-known-r : tie.Need-enum-known-r
 enum-known-r c = search needs
@@ -45,7 +51,8 @@ returns c =
     let b8 = b4 .before .before .before .before in
     let b12 = b8 .before .before .before .before in
     let b16 = b12 .before .before .before .before in
-    record { outcome = λ k o. outcome-free _ _ _ _ _ k (b16 .before .before .before .before .before .before .before .before .pre) o _ _ _ (b4 .enum-told .given .1) (b16 .rows .ensures k o) (b2 .finish .ensures); words = b12 .clear64 .ensures; halves = b8 .clear32 .ensures }
+    let b26 = b16 .before .before .before .before .before .before .before .before .before .before in
+    record { outcome = λ k o. outcome-free _ _ _ _ _ k (b26 .pre) o _ _ _ (b4 .enum-told .given .1) (b16 .rows .ensures k o) (b2 .finish .ensures); words = b12 .clear64 .ensures; halves = b8 .clear32 .ensures }
 
 same-length-4 : tie.Need-same-length-4
 same-length-4 c = search needs
@@ -63,12 +70,14 @@ returns-2 c =
     let b9 = b5 .before .before .before .before in
     let b13 = b9 .before .before .before .before in
     let b17 = b13 .before .before .before .before in
-    record { outcome = λ k o. outcome-met _ _ _ _ _ k (b17 .before .before .before .before .before .before .before .before .pre) o _ _ _ _ _ _ _ (b5 .r .given .1) (b17 .rows .ensures k o) (b2 .clear16 .ensures); words = b13 .clear64 .ensures; halves = b9 .clear32 .ensures }
+    let b27 = b17 .before .before .before .before .before .before .before .before .before .before in
+    record { outcome = λ k o. outcome-met _ _ _ _ _ k (b27 .pre) o _ _ _ _ _ _ _ (b5 .r .given .1) (b17 .rows .ensures k o) (b2 .clear16 .ensures); words = b13 .clear64 .ensures; halves = b9 .clear32 .ensures }
 
 pub fill-spec : {M : Type 1} → statement M
 fill-spec =
     tie.close
     (tie.spec
+    lasts-requires
     rows-requires
     clear64-requires
     clear32-requires

@@ -12,16 +12,16 @@ use Rattle.lookaheads.proofs.rows.Statement.{statement}
 use Rattle.lookaheads.proofs.rows.Tie as tie
 
 abbrev Inv-loop : tie.InvT-loop
-Inv-loop c t w z n terminals p a q m₀ found accept meet m = Clear meet m
+Inv-loop c t w z last n terminals p a q m₀ found accept meet m = Clear meet m
 
 abbrev μ-loop : tie.MeasureT-loop
-μ-loop c t w z n terminals p a q m₀ found accept meet m = terminals - m
+μ-loop c t w z last n terminals p a q m₀ found accept meet m = terminals - m
 
 abbrev Inv-states : tie.InvT-states
-Inv-states c t₀ w z n terminals p a q₀ m₀ t q m = (q ≤ n) × ((k : ℕ) → Ordered c w k → Rows c (Stands c t₀ w z n k) q t₀ t)
+Inv-states c t₀ w z last n terminals p a q₀ m₀ t q m = (q ≤ n) × ((k : ℕ) → Ordered c w k → Rows c (Stands c t₀ w z n k) q t₀ t)
 
 abbrev μ-states : tie.MeasureT-states
-μ-states c t₀ w z n terminals p a q₀ m₀ t q m = n - q
+μ-states c t₀ w z last n terminals p a q₀ m₀ t q m = n - q
 
 terminals-requires : tie.Need-terminals-requires Inv-loop μ-loop Inv-states μ-states
 terminals-requires c κs = search needs
@@ -33,10 +33,10 @@ wide-requires : tie.Need-wide-requires Inv-loop μ-loop Inv-states μ-states
 wide-requires c κs = search needs
 
 target-requires : tie.Need-target-requires Inv-loop μ-loop Inv-states μ-states
-target-requires c κs = row-fits _ _ _ (c .before .before .before .before .before .before .before .before .pre .ordered) 0 (omega arith)
+target-requires c κs = row-fits _ _ _ (c .before .before .before .before .before .before .before .before .pre .0 .ordered) 0 (omega arith)
 
 states-holds : tie.Need-states-holds Inv-loop μ-loop Inv-states μ-states
-states-holds c = (omega arith, λ k o. rows-none _ _ _ _ _ k (c .before .before .before .before .before .before .before .before .before .pre) o)
+states-holds c = (omega arith, λ k o. rows-none _ _ _ _ _ k (c .before .before .before .before .before .before .before .before .before .pre .0) o)
 
 wider-requires : tie.Need-wider-requires Inv-loop μ-loop Inv-states μ-states
 wider-requires c κs = search needs
@@ -45,7 +45,7 @@ words-requires : tie.Need-words-requires Inv-loop μ-loop Inv-states μ-states
 words-requires c κs =
     let b1 = c .before in
     let b12 = b1 .before .before .before .before .before .before .before .before .before .before .before in
-    ((_, b12 .pre .ordered), omega (arith, c .wider .ensures, b1 .states-test .taken, b12 .pre .numbered .most), omega (arith, b12 .pre .words-long))
+    ((_, b12 .pre .0 .ordered), omega (arith, c .wider .ensures, b1 .states-test .taken, b12 .pre .0 .numbered .most), omega (arith, b12 .pre .0 .words-long), b12 .pre .1)
 
 acceptance-requires : tie.Need-acceptance-requires Inv-loop μ-loop Inv-states μ-states
 acceptance-requires c κs = search needs
@@ -54,13 +54,14 @@ shifts-requires : tie.Need-shifts-requires Inv-loop μ-loop Inv-states μ-states
 shifts-requires c κs =
     let b3 = c .before .before .before in
     let b14 = b3 .before .before .before .before .before .before .before .before .before .before .before in
-    omega (arith, b3 .states-test .taken, b14 .pre .numbered .most, b14 .pre .words-long)
+    omega (arith, b3 .states-test .taken, b14 .pre .0 .numbered .most, b14 .pre .0 .words-long)
 
 meeting-requires : tie.Need-meeting-requires Inv-loop μ-loop Inv-states μ-states
 meeting-requires c κs =
-    let b8 = c .before .before .before .before .before .before .before .before in
-    let b9 = b8 .before in
-    rw (b8 .wide .ensures, b9 .productions .ensures) (few _ _ _ (b9 .before .before .before .before .before .before .pre .ordered))
+    let b9 = c .before .before .before .before .before .before .before .before .before in
+    let b10 = b9 .before in
+    let b16 = b10 .before .before .before .before .before .before in
+    rw (b9 .wide .ensures, b10 .productions .ensures) (few _ _ _ (b16 .pre .0 .ordered))
 
 loop-holds : tie.Need-loop-holds Inv-loop μ-loop Inv-states μ-states
 loop-holds c = λ i h. absurd (omega arith)
@@ -78,25 +79,33 @@ loop-less : tie.Need-loop-less Inv-loop μ-loop Inv-states μ-states
 loop-less c = search needs
 
 loop-again : tie.Need-loop-again Inv-loop μ-loop Inv-states μ-states
-loop-again c = clear-more _ _ _ _ (c .before .before .wider2 .ensures) (c .before .has .ensures) (c .if1 .left) (c .before .before .before .before .loop .inv)
+loop-again c =
+    let b1 = c .before in
+    let b2 = b1 .before in
+    let b4 = b2 .before .before in
+    clear-more _ _ _ _ (b2 .wider2 .ensures) (b1 .has .ensures) (c .if1 .left) (b4 .loop .inv)
 
 row-requires : tie.Need-row-requires Inv-loop μ-loop Inv-states μ-states
 row-requires c κs =
-    let b8 = c .before .before .before .before .before .before .before .before in
-    let b19 = b8 .before .before .before .before .before .before .before .before .before .before .before in
-    row-fits _ _ _ (b19 .pre .ordered) _ (omega (arith, b8 .states-test .taken, b19 .pre .numbered .most))
+    let b9 = c .before .before .before .before .before .before .before .before .before in
+    let b20 = b9 .before .before .before .before .before .before .before .before .before .before .before in
+    row-fits _ _ _ (b20 .pre .0 .ordered) _ (omega (arith, b9 .states-test .taken, b20 .pre .0 .numbered .most))
 
 write-requires : tie.Need-write-requires Inv-loop μ-loop Inv-states μ-states
 write-requires c κs =
-    let b9 = c .before .before .before .before .before .before .before .before .before in
-    let b10 = b9 .before in
-    let b13 = b10 .before .before .before in
-    let b14 = b13 .before in
-    let b20 = b14 .before .before .before .before .before .before in
-    (rw (b13 .wide .ensures, b14 .productions .ensures) (few _ _ _ (b20 .pre .ordered)), let e = c .row .ensures in omega (arith, e, row-room _ _ _ (b20 .pre .ordered) (b10 .states .q) (omega (arith, b9 .states-test .taken, b20 .pre .numbered .most)), b10 .states .inv .1 _ (b20 .pre .ordered) .long, b20 .pre .table-long))
+    let b1 = c .before in
+    let b11 = b1 .before .before .before .before .before .before .before .before .before .before in
+    let b12 = b11 .before in
+    let b15 = b12 .before .before .before in
+    let b16 = b15 .before in
+    let b22 = b16 .before .before .before .before .before .before in
+    (rw (b15 .wide .ensures, b16 .productions .ensures) (few _ _ _ (b22 .pre .0 .ordered)), let e = b1 .row .ensures in omega (arith, e, row-room _ _ _ (b22 .pre .0 .ordered) (b12 .states .q) (omega (arith, b11 .states-test .taken, b22 .pre .0 .numbered .most)), b12 .states .inv .1 _ (b22 .pre .0 .ordered) .long, b22 .pre .0 .table-long))
 
 add-q : tie.Need-add-q Inv-loop μ-loop Inv-states μ-states
-add-q c = search needs
+add-q c =
+    let b14 = c .before .before .before .before .before .before .before .before .before .before .before .before .before .before in
+    let b25 = b14 .before .before .before .before .before .before .before .before .before .before .before in
+    omega (arith, b14 .states-test .taken, b25 .fits .n)
 
 states-less : tie.Need-states-less Inv-loop μ-loop Inv-states μ-states
 states-less c = search needs
@@ -104,27 +113,27 @@ states-less c = search needs
 states-again : tie.Need-states-again Inv-loop μ-loop Inv-states μ-states
 states-again c =
     let b2 = c .before .before in
-    let b3 = b2 .before in
-    let b5 = b3 .before .before in
-    let b6 = b5 .before in
+    let b4 = b2 .before .before in
+    let b6 = b4 .before .before in
     let b7 = b6 .before in
     let b8 = b7 .before in
-    let b9 = b8 .before in
-    let b10 = b9 .before in
+    let b10 = b8 .before .before in
     let b11 = b10 .before in
     let b12 = b11 .before in
     let b13 = b12 .before in
     let b14 = b13 .before in
-    let b16 = b14 .before .before in
-    let b17 = b16 .before in
-    let b18 = b17 .before in
-    let b23 = b18 .before .before .before .before .before in
-    let many = b16 .wide .ensures ∙ b17 .productions .ensures in (
+    let b15 = b14 .before in
+    let b16 = b15 .before in
+    let b18 = b16 .before .before in
+    let b19 = b18 .before in
+    let b20 = b19 .before in
+    let b25 = b20 .before .before .before .before .before in
+    let many = b18 .wide .ensures ∙ b19 .productions .ensures in (
       omega arith,
       λ k o.
-          rows-more _ _ _ _ _ k (b23 .pre) o _ _ (b13 .states .inv .1 k o) (b12 .states-test .taken) _ _ _ _
-          (known _ _ _ _ _ k (b23 .pre) o _ _ _ _ _ _ _ _ (b12 .states-test .taken) (b11 .wider .ensures) (b14 .target .ensures) many (b8 .shifts .ensures) (b10 .words .ensures k o)
-          (b9 .acceptance .ensures) (b7 .meeting .ensures)) _ _ _ _ (b3 .row .ensures) many (omega (arith, b5 .loop-test .left, b18 .terminals .ensures)) (b6 .loop .inv)
+          rows-more _ _ _ _ _ k (b25 .pre .0) o _ _ (b15 .states .inv .1 k o) (b14 .states-test .taken) _ _ _ _
+          (known _ _ _ _ _ k (b25 .pre .0) o _ _ _ _ _ _ _ _ (b14 .states-test .taken) (b13 .wider .ensures) (b16 .target .ensures) many (b10 .shifts .ensures) (b12 .words .ensures k o)
+          (b11 .acceptance .ensures) (b8 .meeting .ensures)) _ _ _ _ (b4 .row .ensures) many (omega (arith, b6 .loop-test .left, b20 .terminals .ensures)) (b7 .loop .inv)
           (b2 .write .ensures),
     )
 
@@ -132,12 +141,13 @@ conflict-requires : tie.Need-conflict-requires Inv-loop μ-loop Inv-states μ-st
 conflict-requires c κs =
     let b1 = c .before in
     let b13 = b1 .before .before .before .before .before .before .before .before .before .before .before .before in
-    ((_, b13 .pre .ordered), omega (arith, b1 .if2 .taken, b13 .pre .numbered .most), omega (arith, b13 .pre .words-long), row-fits _ _ _ (b13 .pre .ordered) _ (omega (arith, b1 .if2 .taken, b13 .pre .numbered .most)))
+    ((_, b13 .pre .0 .ordered), omega (arith, b1 .if2 .taken, b13 .pre .0 .numbered .most), omega (arith, b13 .pre .0 .words-long), b13 .pre .1, row-fits _ _ _ (b13 .pre .0 .ordered) _ (omega (arith, b1 .if2 .taken, b13 .pre .0 .numbered .most)))
 
 same-length : tie.Need-same-length Inv-loop μ-loop Inv-states μ-states
 same-length c =
     let b4 = c .before .before .before .before in
-    b4 .states .inv .1 _ (b4 .before .before .before .before .before .before .before .before .before .before .pre .ordered) .long
+    let b14 = b4 .before .before .before .before .before .before .before .before .before .before in
+    b4 .states .inv .1 _ (b14 .pre .0 .ordered) .long
 
 -- the loops were left by the label: two numbers meet at the state and the terminal in hand
 returns : tie.Need-returns Inv-loop μ-loop Inv-states μ-states
@@ -155,25 +165,27 @@ returns c =
     let x : Crossed (Stands (a .c .now) (a .t .now) (a .w .now) (a .z .now) (a .n) k) (a .n) (terminals (a .c .now)) (b4 .states .q) (b3 .states-test .m) =
     ⊎-elim (λ w. absurd (omega (arith, w .0 .left, b2 .if2 .taken)))
     (λ w.
-    subst (Crossed (Stands (a .c .now) (a .t .now) (a .w .now) (a .z .now) (a .n) k) (a .n) (terminals (a .c .now)) (b4 .states .q)) (sym (w .11))
-    (crossed _ _ _ _ _ k (b14 .pre) o _ _ (b4 .states .inv .1 k o) (w .0 .taken) _ _ _ _
-    (known _ _ _ _ _ k (b14 .pre) o _ _ _ _ _ _ _ _ (w .0 .taken) (w .1 .ensures) (b5 .target .ensures) (b7 .wide .ensures ∙ b8 .productions .ensures) (w .4 .ensures)
-    (w .2 .ensures k o) (w .3 .ensures) (w .5 .ensures)) _ _ _ _ (w .7 .taken) (b9 .terminals .ensures) (w .8 .ensures) (w .9 .ensures) (w .10 .taken) (w .6 .inv)))
+    subst (Crossed (Stands (a .c .now) (a .t .now) (a .w .now) (a .z .now) (a .n) k) (a .n) (terminals (a .c .now)) (b4 .states .q)) (sym (w .12))
+    (crossed _ _ _ _ _ k (b14 .pre .0) o _ _ (b4 .states .inv .1 k o) (w .0 .taken) _ _ _ _
+    (known _ _ _ _ _ k (b14 .pre .0) o _ _ _ _ _ _ _ _ (w .0 .taken) (w .1 .ensures) (b5 .target .ensures) (b7 .wide .ensures ∙ b8 .productions .ensures) (w .4 .ensures)
+    (w .2 .ensures k o) (w .3 .ensures) (w .6 .ensures)) _ _ _ _ (w .8 .taken) (b9 .terminals .ensures) (w .9 .ensures) (w .10 .ensures) (w .11 .taken) (w .7 .inv)))
     (b3 .states-test .came)
     in
-    searched-met _ _ _ _ _ k (b14 .pre) o _ _ _ _ (b4 .states .inv .1 k o) x
-    (c .conflict .ensures _ k _ o (b14 .pre .numbered) (x .terminal)
-    (row-as _ _ _ _ _ k (b14 .pre) o _ _ (b4 .states .inv .1 k o) (b2 .if2 .taken) _ (omega (arith, x .terminal))) (x .two))
+    searched-met _ _ _ _ _ k (b14 .pre .0) o _ _ _ _ (b4 .states .inv .1 k o) x
+    (c .conflict .ensures _ k _ o (b14 .pre .0 .numbered) (x .terminal)
+    (row-as _ _ _ _ _ k (b14 .pre .0) o _ _ (b4 .states .inv .1 k o) (b2 .if2 .taken) _ (omega (arith, x .terminal))) (x .two))
 
 same-length-2 : tie.Need-same-length-2 Inv-loop μ-loop Inv-states μ-states
 same-length-2 c =
     let b2 = c .before .before in
-    b2 .states .inv .1 _ (b2 .before .before .before .before .before .before .before .before .before .before .pre .ordered) .long
+    let b12 = b2 .before .before .before .before .before .before .before .before .before .before in
+    b2 .states .inv .1 _ (b12 .pre .0 .ordered) .long
 
 returns-2 : tie.Need-returns-2 Inv-loop μ-loop Inv-states μ-states
 returns-2 c =
     let b2 = c .before .before in
-    λ k o. searched-free _ _ _ _ _ k (b2 .before .before .before .before .before .before .before .before .before .before .pre) o _ _ (b2 .states .inv .0) (c .if2 .left) (b2 .states .inv .1 k o)
+    let b12 = b2 .before .before .before .before .before .before .before .before .before .before in
+    λ k o. searched-free _ _ _ _ _ k (b12 .pre .0) o _ _ (b2 .states .inv .0) (c .if2 .left) (b2 .states .inv .1 k o)
 
 pub rows-spec : {M : Type 1} → statement M
 rows-spec =

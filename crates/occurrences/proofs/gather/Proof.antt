@@ -6,9 +6,9 @@ use lib.ListN.{length, getD, length-set}
 use denote.Ref.{now}
 use Rattle.grammar.specs.Card.{productions, lengthOf, startOf}
 use Rattle.grammar.proofs.CardLaws.{well-formed}
-use Rattle.transitions.proofs.SymbolLaws.{right-fits}
+use Rattle.transitions.proofs.SymbolLaws.{right-fits, start-more}
 use Rattle.occurrences.specs.Gathers.{Gathered, Started}
-use Rattle.occurrences.proofs.GatherLaws.{below, store-start, store-high, started-more, start-more, gather-next, gather-end}
+use Rattle.occurrences.proofs.GatherLaws.{below, store-start, store-high, started-more, gather-next, gather-end}
 use Rattle.occurrences.proofs.gather.Statement.{statement}
 use Rattle.occurrences.proofs.gather.Tie as tie
 

@@ -7,7 +7,7 @@ use Rattle.transitions.specs.Occurrences.{symbolAt}
 use Rattle.transitions.specs.Data.{Enters}
 use Rattle.relations.specs.Path.{Path, States}
 use Rattle.transitions.proofs.SymbolLaws.{symbol-is, right-fits}
-use Rattle.relations.proofs.PathLaws.{back-start, back-more, back-end}
+use Rattle.relations.proofs.PathLaws.{back-start, back-stop, back-more, back-end}
 use Rattle.relations.proofs.back.Statement.{statement}
 use Rattle.relations.proofs.back.Tie as tie
 
@@ -29,17 +29,28 @@ with-requires c κs = c .before .before .before .before .pre .1
 loop-holds : tie.Need-loop-holds Inv-loop μ-loop
 loop-holds c = (omega arith, back-start _ _ _ _ _ _ (c .before .empty .ensures) (c .with .ensures))
 
+lowest-requires : tie.Need-lowest-requires Inv-loop μ-loop
+lowest-requires c κs = search needs
+
+returns : tie.Need-returns Inv-loop μ-loop
+returns c =
+    let b1 = c .before in
+    let b2 = b1 .before in
+    let b3 = b2 .before in
+    back-stop _ _ _ _ (b3 .loop .i) _ _ (omega (arith, b2 .loop-test .taken)) (b3 .loop .inv .0) (b1 .lowest .ensures) (c .if1 .taken) (b3 .loop .inv .1)
+
 sub-i : tie.Need-sub-i Inv-loop μ-loop
 sub-i c = search needs
 
 add-symbol : tie.Need-add-symbol Inv-loop μ-loop
 add-symbol c =
-    let args = c .before .before .before .before .before .before .before .args in
-    let pre = c .before .before .before .before .before .before .before .pre in
-    let starting = c .before .before .before .before .starting in
-    let f = right-fits (now (args .c)) (args .r) (pre .0 .1 .formed) (pre .2) in
-    let s = starting .ensures ∙ pre .0 .1 .starts (args .r) (pre .2) in
-    omega arith
+    let b2 = c .before .before in
+    let b3 = b2 .before in
+    let b6 = b3 .before .before .before in
+    let b9 = b6 .before .before .before in
+    let f = right-fits (now (b9 .args .c)) (b9 .args .r) (b9 .pre .0 .1 .formed) (b9 .pre .2) in
+    let s = b6 .starting .ensures ∙ b9 .pre .0 .1 .starts (b9 .args .r) (b9 .pre .2) in
+    omega (arith, f, s, b3 .loop .inv .0, b2 .loop-test .taken)
 
 symbol-requires : tie.Need-symbol-requires Inv-loop μ-loop
 symbol-requires c κs = search needs
@@ -55,19 +66,16 @@ loop-less c = search needs
 
 loop-again : tie.Need-loop-again Inv-loop μ-loop
 loop-again c =
-    let args = c .before .before .before .before .before .before .before .before .before .before .args in
-    let pre = c .before .before .before .before .before .before .before .before .before .before .pre in
-    let starting = c .before .before .before .before .before .before .before .starting in
-    let loop = c .before .before .before .before .loop in
-    let loop-test = c .before .before .before .loop-test in
-    let symbol′ = c .before .before .symbol in
-    let wider = c .before .wider in
-    let predecessors = c .predecessors in
-    let s = starting .ensures ∙ pre .0 .1 .starts (args .r) (pre .2) in
-    (omega arith, back-more _ _ _ _ (loop .i) _ _ _ (omega arith) (loop .inv .0) (symbol-is _ _ _ _ _ s (wider .ensures ∙ symbol′ .ensures)) (loop .inv .1) (predecessors .ensures))
+    let b1 = c .before in
+    let b2 = b1 .before in
+    let b6 = b2 .before .before .before .before in
+    let b9 = b6 .before .before .before in
+    let b12 = b9 .before .before .before in
+    let s = b9 .starting .ensures ∙ b12 .pre .0 .1 .starts (b12 .args .r) (b12 .pre .2) in
+    (omega arith, back-more _ _ _ _ (b6 .loop .i) _ _ _ (omega arith) (b6 .loop .inv .0) (symbol-is _ _ _ _ _ s (b1 .wider .ensures ∙ b2 .symbol .ensures)) (b6 .loop .inv .1) (c .predecessors .ensures))
 
-returns : tie.Need-returns Inv-loop μ-loop
-returns c = back-end _ _ _ _ (c .before .loop .i) _ (c .loop-test .left) (c .before .loop .inv .1)
+returns-2 : tie.Need-returns-2 Inv-loop μ-loop
+returns-2 c = back-end _ _ _ _ (c .before .loop .i) _ (c .loop-test .left) (c .before .loop .inv .1)
 
 pub back-spec : {M : Type 1} → statement M
 back-spec =
@@ -79,6 +87,8 @@ back-spec =
     empty-requires
     with-requires
     loop-holds
+    lowest-requires
+    returns
     sub-i
     add-symbol
     symbol-requires
@@ -86,4 +96,4 @@ back-spec =
     predecessors-requires
     loop-less
     loop-again
-    returns)
+    returns-2)

@@ -1,0 +1,304 @@
+/* Runs the cases of a data table through the generator and the parser.
+
+       cases FILE
+
+   A case begins with `make NAME` or `parse NAME`. Numbers are decimal; K*V
+   stands for K times V, a comma for nothing. Lines of a `make` case:
+
+       card NUMBERS
+       areas TABLE WORK WORK2      lengths; without it the least ones
+       answer NUMBER VALUES        0 for a table, rest 0
+       states Q                    of a table: its states,
+       row STATE : NUMBERS         a whole row,
+       cell STATE COLUMN VALUE     a cell,
+       table NUMBERS               all of it
+
+   Header, cleared places and areas that must not change are looked at in every
+   case. Lines of a `parse` case:
+
+       made                        the table made last, or
+       table NUMBERS
+       input NUMBERS
+       stack LENGTH, list LENGTH, limit STEPS
+       answer NUMBERS              number, steps, depth, listed, position,
+                                   expected word, expected count; rest 0
+       stacked NUMBERS, listed NUMBERS   the first places afterwards; places
+                                   behind them are as they were              */
+
+#include <stdio.h>
+#include <stdlib.h>
+#include <string.h>
+
+#include "sidumza.h"
+#include "sidumza_generator.h"
+
+enum {
+    TABLE = 32004, WORK = 8192, WORK2 = 16384,
+    LONGER = 100, FENCE = 16, MANY = 70000
+};
+
+static uint64_t values[MANY];
+static size_t count;
+
+static uint16_t card[MANY], table[TABLE + LONGER + FENCE], made[TABLE];
+static uint64_t work[WORK + LONGER + FENCE];
+static uint32_t work2[WORK2 + LONGER + FENCE];
+static uint16_t given[MANY];
+static uint8_t input[MANY];
+static uint16_t stack[MANY], list[MANY];
+static size_t card_len, given_len, input_len, stack_len, list_len, areas[3];
+static uint32_t limit;
+static uint64_t out[7];
+static int answered;
+static char name[300], kind;
+static unsigned long makes, parses, failures, line_number;
+static unsigned long seen[40];
+
+/* Old contents, different from place to place and never 0. */
+static uint64_t old(size_t place) {
+    return (place * 0x9e3779b97f4a7c15u >> 7) | 1;
+}
+
+static void fail(const char *what, uint64_t at) {
+    printf("line %lu, %s: %s (%llu)\n", line_number, name, what, (unsigned long long)at);
+    failures++;
+}
+
+static void malformed(void) {
+    fprintf(stderr, "line %lu is malformed\n", line_number);
+    exit(2);
+}
+
+/* The numbers of a line. */
+static void numbers(const char *from) {
+    count = 0;
+    while (*from) {
+        char *end;
+        if (*from == ' ' || *from == ',' || *from == ':') {
+            from++;
+            continue;
+        }
+        uint64_t value = strtoull(from, &end, 10), times = 1;
+        if (end == from)
+            malformed();
+        if (*end == '*') {
+            times = value;
+            value = strtoull(end + 1, &end, 10);
+        }
+        for (; times > 0; times--) {
+            if (count == MANY)
+                malformed();
+            values[count++] = value;
+        }
+        from = end;
+    }
+}
+
+static void numbers16(uint16_t *into, size_t *length) {
+    for (size_t i = 0; i < count; i++)
+        into[i] = (uint16_t)values[i];
+    *length = count;
+}
+
+static void begin(char what, const char *title) {
+    kind = what;
+    snprintf(name, sizeof name, "%.299s", title);
+    answered = 0;
+    areas[0] = TABLE, areas[1] = WORK, areas[2] = WORK2;
+    card_len = input_len = 0;
+    stack_len = list_len = 100;
+    limit = 1000;
+}
+
+static void compare_answer(size_t length) {
+    for (size_t i = 0; i < length; i++) {
+        uint64_t want = i < count ? values[i] : 0;
+        if (out[i] != want) {
+            fail("answer differs at place", i);
+            printf("    answer");
+            for (size_t k = 0; k < length; k++)
+                printf(" %llu", (unsigned long long)out[k]);
+            printf("\n");
+            return;
+        }
+    }
+}
+
+static size_t table_length(void) {
+    return 4 + 2 * (size_t)table[3] + (size_t)table[0] * ((size_t)table[1] + table[2]);
+}
+
+static void run_make(void) {
+    for (size_t i = 0; i < TABLE + LONGER + FENCE; i++)
+        table[i] = (uint16_t)old(i);
+    for (size_t i = 0; i < WORK + LONGER + FENCE; i++)
+        work[i] = old(i);
+    for (size_t i = 0; i < WORK2 + LONGER + FENCE; i++)
+        work2[i] = (uint32_t)old(i);
+    for (size_t i = 0; i < 7; i++)
+        out[i] = 99;
+    sidumza_generate(card, card_len, table, areas[0], work, areas[1], work2, areas[2], out);
+    makes++;
+    if (out[0] < 40)
+        seen[out[0]]++;
+    compare_answer(5);
+    int cleared = out[0] == 0 || out[0] > 10;
+    size_t end = 0;
+    if (out[0] == 0) {
+        end = table_length();
+        if (end > TABLE || memcmp(table + 1, card, 3 * sizeof *card) != 0 ||
+            memcmp(table + 4, card + 4, 2 * (size_t)card[2] * sizeof *card) != 0) {
+            fail("header", 0);
+            return;
+        }
+    }
+    memcpy(made, table, sizeof made);
+    for (size_t i = end; i < TABLE + LONGER + FENCE; i++)
+        if (table[i] != (cleared && i < TABLE ? 0 : (uint16_t)old(i))) {
+            fail("table area, place", i);
+            break;
+        }
+    for (size_t i = 0; i < WORK + LONGER + FENCE; i++)
+        if (work[i] != (cleared && i < WORK ? 0 : old(i))) {
+            fail("first work area, place", i);
+            break;
+        }
+    for (size_t i = 0; i < WORK2 + LONGER + FENCE; i++)
+        if (work2[i] != (cleared && i < WORK2 ? 0 : (uint32_t)old(i))) {
+            fail("second work area, place", i);
+            break;
+        }
+}
+
+static void run_parse(void) {
+    for (size_t i = 0; i < MANY; i++)
+        stack[i] = list[i] = (uint16_t)old(i);
+    for (size_t i = 0; i < 7; i++)
+        out[i] = 99;
+    sidumza_parse(given, given_len, input, input_len, stack, stack_len, list, list_len, limit, out);
+    parses++;
+    if (out[0] < 40)
+        seen[out[0]]++;
+    compare_answer(7);
+    if (out[0] > 20 && out[0] < 30)
+        for (size_t i = 0; i < MANY; i++)
+            if (stack[i] != (uint16_t)old(i) || list[i] != (uint16_t)old(i)) {
+                fail("an area changed at place", i);
+                break;
+            }
+}
+
+/* The area begins with the numbers of the line and is as it was behind them. */
+static void compare_area(const char *which, const uint16_t *area) {
+    for (size_t i = 0; i < MANY; i++)
+        if (area[i] != (i < count ? values[i] : (uint16_t)old(i))) {
+            fail(which, i);
+            return;
+        }
+}
+
+static int starts(const char *line, const char *word, const char **rest) {
+    size_t length = strlen(word);
+    if (strncmp(line, word, length) != 0 || (line[length] != ' ' && line[length] != 0))
+        return 0;
+    *rest = line + length;
+    return 1;
+}
+
+static void read_line(const char *line) {
+    const char *rest;
+    if (starts(line, "make", &rest)) {
+        begin('m', rest + 1);
+        return;
+    }
+    if (starts(line, "parse", &rest)) {
+        begin('p', rest + 1);
+        return;
+    }
+    if (starts(line, "made", &rest)) {
+        memcpy(given, made, sizeof made);
+        given_len = TABLE;
+        return;
+    }
+    rest = strchr(line, ' ');
+    numbers(rest ? rest : "");
+    if (starts(line, "answer", &rest)) {
+        answered = 1;
+        if (kind == 'm')
+            run_make();
+        else
+            run_parse();
+    } else if (kind == 'm' && starts(line, "card", &rest)) {
+        numbers16(card, &card_len);
+    } else if (kind == 'm' && starts(line, "areas", &rest) && count == 3) {
+        for (size_t i = 0; i < 3; i++)
+            areas[i] = (size_t)values[i];
+        if (areas[0] > TABLE + LONGER || areas[1] > WORK + LONGER || areas[2] > WORK2 + LONGER)
+            malformed();
+    } else if (kind == 'm' && answered && starts(line, "states", &rest) && count == 1) {
+        if (table[0] != values[0])
+            fail("number of states", table[0]);
+    } else if (kind == 'm' && answered && starts(line, "row", &rest)) {
+        size_t columns = (size_t)table[1] + table[2];
+        if (count != columns + 1)
+            malformed();
+        const uint16_t *row = table + 4 + 2 * (size_t)table[3] + values[0] * columns;
+        for (size_t i = 0; i < columns; i++)
+            if (row[i] != values[i + 1])
+                fail("row differs at column", i);
+    } else if (kind == 'm' && answered && starts(line, "cell", &rest) && count == 3) {
+        size_t columns = (size_t)table[1] + table[2];
+        uint16_t cell = table[4 + 2 * (size_t)table[3] + values[0] * columns + values[1]];
+        if (cell != values[2])
+            fail("cell", cell);
+    } else if (kind == 'm' && answered && starts(line, "table", &rest)) {
+        if (count != table_length())
+            malformed();
+        for (size_t i = 0; i < count; i++)
+            if (table[i] != values[i])
+                fail("table differs at place", i);
+    } else if (kind == 'p' && starts(line, "table", &rest)) {
+        numbers16(given, &given_len);
+    } else if (kind == 'p' && starts(line, "input", &rest)) {
+        for (size_t i = 0; i < count; i++)
+            input[i] = (uint8_t)values[i];
+        input_len = count;
+    } else if (kind == 'p' && starts(line, "stack", &rest) && count == 1) {
+        stack_len = (size_t)values[0];
+    } else if (kind == 'p' && starts(line, "list", &rest) && count == 1) {
+        list_len = (size_t)values[0];
+    } else if (kind == 'p' && starts(line, "limit", &rest) && count == 1) {
+        limit = (uint32_t)values[0];
+    } else if (kind == 'p' && answered && starts(line, "stacked", &rest)) {
+        compare_area("stack", stack);
+    } else if (kind == 'p' && answered && starts(line, "listed", &rest)) {
+        compare_area("list", list);
+    } else {
+        malformed();
+    }
+}
+
+int main(int argc, char **argv) {
+    static char line[1 << 16];
+    FILE *file = argc == 2 ? fopen(argv[1], "r") : NULL;
+    if (!file) {
+        fprintf(stderr, "usage: cases FILE\n");
+        return 2;
+    }
+    while (fgets(line, sizeof line, file)) {
+        line_number++;
+        line[strcspn(line, "\n")] = 0;
+        if (line[0] != 0 && line[0] != '#')
+            read_line(line);
+    }
+    fclose(file);
+    for (unsigned long number = 0; number < 36; number++) {
+        int wanted = number < 14 || (number > 20 && number < 28) || number > 30;
+        if (wanted && seen[number] == 0) {
+            printf("answer %lu was not seen\n", number);
+            failures++;
+        }
+    }
+    printf("%lu generator cases, %lu parser cases, %lu failures\n", makes, parses, failures);
+    return failures != 0;
+}

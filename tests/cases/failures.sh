@@ -1,0 +1,32 @@
+#!/bin/sh
+# failures.sh PROGRAM: a call of `maketable` whose read or write fails says so on standard error, and after
+# a failed read nothing stands on standard output. Linux: reading a folder is error 21, /dev/full is error 28.
+set -eu
+program=$1
+room=$(mktemp -d)
+trap 'rm -rf "$room"' EXIT
+bad=0
+
+expect() { # WHAT WANTED: the two files are out and err
+    if [ "$(cat "$room/out")" != '' ] || [ "$(cat "$room/err")" != "$2" ]; then
+        echo "$1: printed '$(cat "$room/out")' and said '$(cat "$room/err")', expected '$2'"
+        bad=1
+    fi
+}
+
+"$program" <"$room" >"$room/out" 2>"$room/err"
+expect "a read that fails" "maketable: read failed, errno 21"
+
+: >"$room/out"
+echo "1 1 1" | "$program" 2>"$room/err" >/dev/full
+expect "a write that fails" "maketable: write failed, errno 28"
+
+"$program" <&- >"$room/out" 2>"$room/err"
+expect "standard input closed" "maketable: read failed, errno 9"
+
+: >"$room/out"
+echo "x" | "$program" 2>"$room/err" >&-
+expect "standard output closed" "maketable: write failed, errno 9"
+
+[ $bad -eq 0 ] && echo "4 failing calls, each told"
+exit $bad

@@ -1,0 +1,143 @@
+//! The C functions under test. Where an archive is not linked, the reference's
+//! second way and its parser stand in behind the same functions.
+
+#[cfg(generator_archive)]
+pub const GENERATOR: &str = "archive";
+#[cfg(not(generator_archive))]
+pub const GENERATOR: &str = "stand-in";
+
+#[cfg(parser_archive)]
+pub const PARSER: &str = "archive";
+#[cfg(not(parser_archive))]
+pub const PARSER: &str = "stand-in";
+
+#[cfg(generator_archive)]
+extern "C" {
+    fn sidumza_generate(
+        card: *const u16,
+        card_len: usize,
+        table: *mut u16,
+        table_len: usize,
+        work: *mut u64,
+        work_len: usize,
+        work2: *mut u32,
+        work2_len: usize,
+        out: *mut u64,
+    );
+}
+
+#[cfg(not(generator_archive))]
+#[allow(clippy::too_many_arguments)]
+unsafe extern "C" fn sidumza_generate(
+    card: *const u16,
+    card_len: usize,
+    table: *mut u16,
+    table_len: usize,
+    work: *mut u64,
+    work_len: usize,
+    work2: *mut u32,
+    work2_len: usize,
+    out: *mut u64,
+) {
+    use reference::answer::{answer, generate, Method};
+    use std::slice::{from_raw_parts, from_raw_parts_mut};
+    let numbers = generate(
+        from_raw_parts(card, card_len),
+        from_raw_parts_mut(table, table_len),
+        from_raw_parts_mut(work, work_len),
+        from_raw_parts_mut(work2, work2_len),
+        |card| answer(card, Method::Spreading).expect("this way never gives up"),
+    );
+    from_raw_parts_mut(out, 5).copy_from_slice(&numbers);
+}
+
+#[cfg(parser_archive)]
+extern "C" {
+    fn sidumza_parse(
+        table: *const u16,
+        table_len: usize,
+        input: *const u8,
+        input_len: usize,
+        stack: *mut u16,
+        stack_len: usize,
+        list: *mut u16,
+        list_len: usize,
+        step_limit: u32,
+        out: *mut u64,
+    );
+}
+
+#[cfg(not(parser_archive))]
+#[allow(clippy::too_many_arguments)]
+unsafe extern "C" fn sidumza_parse(
+    table: *const u16,
+    table_len: usize,
+    input: *const u8,
+    input_len: usize,
+    stack: *mut u16,
+    stack_len: usize,
+    list: *mut u16,
+    list_len: usize,
+    step_limit: u32,
+    out: *mut u64,
+) {
+    use std::slice::{from_raw_parts, from_raw_parts_mut};
+    let outcome = reference::parser::parse(
+        from_raw_parts(table, table_len),
+        from_raw_parts(input, input_len),
+        from_raw_parts_mut(stack, stack_len),
+        from_raw_parts_mut(list, list_len),
+        step_limit,
+    );
+    from_raw_parts_mut(out, 7).copy_from_slice(&outcome.out());
+}
+
+/// Makes a table: card, table area, both work areas.
+pub type Generator = dyn Fn(&[u16], &mut [u16], &mut [u64], &mut [u32]) -> [u64; 5];
+
+/// Reads an input: table, input, stack area, list area, step limit.
+pub type Parser = dyn Fn(&[u16], &[u8], &mut [u16], &mut [u16], u32) -> [u64; 7];
+
+pub fn generate(card: &[u16], table: &mut [u16], work: &mut [u64], work2: &mut [u32]) -> [u64; 5] {
+    // What is not written must not look like an answer.
+    let mut out = [99; 5];
+    unsafe {
+        sidumza_generate(
+            card.as_ptr(),
+            card.len(),
+            table.as_mut_ptr(),
+            table.len(),
+            work.as_mut_ptr(),
+            work.len(),
+            work2.as_mut_ptr(),
+            work2.len(),
+            out.as_mut_ptr(),
+        );
+    }
+    out
+}
+
+pub fn parse(
+    table: &[u16],
+    input: &[u8],
+    stack: &mut [u16],
+    list: &mut [u16],
+    step_limit: u32,
+) -> [u64; 7] {
+    let mut out = [99; 7];
+    unsafe {
+        sidumza_parse(
+            table.as_ptr(),
+            table.len(),
+            input.as_ptr(),
+            input.len(),
+            stack.as_mut_ptr(),
+            stack.len(),
+            list.as_mut_ptr(),
+            list.len(),
+            step_limit,
+            out.as_mut_ptr(),
+        );
+    }
+    out
+}

@@ -1,0 +1,159 @@
+//! Random cards through the generator, and inputs through the parser with the
+//! tables made.
+//!
+//!     generator-tests random            compares the linked archives with the reference
+//!     generator-tests self-check        requires that wrong generators and parsers are found
+//!     generator-tests measure FILE..    prints sizes and times of stored cards
+//!     generator-tests climb WHAT FILE.. looks for cards with more WHAT: time, reads,
+//!                                       includes or edges
+//!
+//! SEED, CARDS and SEARCH_SECONDS set the seed, the number of cards and the time to look.
+
+mod abi;
+mod cards;
+mod check;
+mod lookaheads;
+mod measure;
+mod relations;
+mod wrong;
+
+use std::process::ExitCode;
+use std::time::Instant;
+
+use check::{Checker, Counts};
+use reference::random::Random;
+
+fn setting(name: &str, default: u64) -> u64 {
+    match std::env::var(name) {
+        Ok(text) => text.parse().unwrap_or_else(|_| panic!("{name} is no number: {text}")),
+        Err(_) => default,
+    }
+}
+
+fn show(numbers: &[u16]) -> String {
+    let words: Vec<String> = numbers.iter().map(|n| n.to_string()).collect();
+    words.join(" ")
+}
+
+fn report(counts: &Counts) {
+    for (answer, count) in counts.answers.iter().enumerate() {
+        let name = if answer == 0 { "table".into() } else { format!("refused {answer}") };
+        println!("{name:>12} {count:>8}");
+    }
+    println!("tables with 64 terminals {}, with over 100 states {}", counts.wide, counts.large);
+    println!("by the definition {}, by both ways {}", counts.by_definition, counts.both_ways);
+    println!(
+        "inputs: accepted {}, wrong at the end {}, wrong before {}, ran out {}, refused {}",
+        counts.sentences, counts.wrong_at_end, counts.wrong_before, counts.ran_out, counts.refused
+    );
+}
+
+fn compare(seed: u64, cards: u64) -> bool {
+    println!("seed {seed}, {cards} cards; generator: {}, parser: {}", abi::GENERATOR, abi::PARSER);
+    let mut random = Random::new(seed);
+    let mut checker = Checker::new(&mut random);
+    for _ in 0..cards {
+        let numbers = cards::card(&mut random);
+        if let Err(what) = checker.card(&mut random, &numbers, &abi::generate, &abi::parse) {
+            println!("card {}: {what}", show(&numbers));
+            println!("FAILED at card {} of seed {seed}", checker.counts.cards);
+            return false;
+        }
+    }
+    report(&checker.counts);
+    let unseen: Vec<usize> = (0..14).filter(|&a| checker.counts.answers[a] == 0).collect();
+    if !unseen.is_empty() {
+        println!("FAILED: answers not seen: {unseen:?}");
+    }
+    unseen.is_empty()
+}
+
+/// The number of the first card at which a wrong generator or parser is found.
+fn found(
+    seed: u64,
+    cards: u64,
+    compare: bool,
+    generator: &abi::Generator,
+    parser: &abi::Parser,
+) -> Option<(u64, String)> {
+    let mut random = Random::new(seed);
+    let mut checker = Checker::new(&mut random);
+    checker.both = u64::MAX;
+    checker.compare = compare;
+    for card in 1..=cards {
+        let numbers = cards::card(&mut random);
+        if let Err(what) = checker.card(&mut random, &numbers, generator, parser) {
+            return Some((card, what));
+        }
+    }
+    None
+}
+
+fn self_check(seed: u64, cards: u64) -> bool {
+    fn parser(t: &[u16], i: &[u8], s: &mut [u16], l: &mut [u16], limit: u32) -> [u64; 7] {
+        reference::parser::parse(t, i, s, l, limit).out()
+    }
+    fn generator(c: &[u16], t: &mut [u16], w: &mut [u64], v: &mut [u32]) -> [u64; 5] {
+        use reference::answer::{answer, generate, Method};
+        generate(c, t, w, v, |card| answer(card, Method::Spreading).expect("an answer"))
+    }
+    println!("seed {seed}, at most {cards} cards each");
+    let (mut told, mut missed) = (0, 0);
+    let mut tell = |name: &str, result: Option<(u64, String)>| {
+        told += 1;
+        match result {
+            Some((card, what)) => println!("found at card {card:>6}: {name} ({what})"),
+            None => {
+                println!("NOT FOUND: {name}");
+                missed += 1;
+            }
+        }
+    };
+    // The base of some wrong generators is right.
+    let base = wrong::by_relations("the short way without a fault", relations::Fault::None);
+    if let Some((card, what)) = found(seed, cards / 10, true, &base.generator, &parser) {
+        println!("FAILED: {} at card {card}: {what}", base.name);
+        return false;
+    }
+    for wrong in wrong::generators() {
+        tell(wrong.name, found(seed, cards, true, &wrong.generator, &parser));
+    }
+    for wrong in wrong::tables() {
+        tell(wrong.name, found(seed, cards, false, &wrong.generator, &parser));
+    }
+    for (name, wrong) in wrong::parsers() {
+        tell(name, found(seed, cards, true, &generator, &wrong));
+    }
+    println!("{told} wrong generators and parsers, {missed} not found");
+    missed == 0
+}
+
+fn main() -> ExitCode {
+    let seed = setting("SEED", 1);
+    let cards = setting("CARDS", 100_000);
+    let begun = Instant::now();
+    let arguments: Vec<String> = std::env::args().skip(1).collect();
+    let good = match arguments.iter().map(String::as_str).collect::<Vec<_>>()[..] {
+        ["random"] => compare(seed, cards),
+        ["self-check"] => self_check(seed, cards),
+        ["measure", _, ..] => measure::measure_files(&arguments[1..]),
+        ["climb", what, _, ..] => {
+            let mut random = Random::new(seed);
+            measure::climb(&mut random, setting("SEARCH_SECONDS", 60), what, &arguments[2..])
+        }
+        _ => {
+            println!("random, self-check, measure FILE.. or climb WHAT FILE..");
+            false
+        }
+    };
+    println!(
+        "{} in {:.1} s",
+        if good { "passed" } else { "FAILED" },
+        begun.elapsed().as_secs_f64()
+    );
+    if good {
+        ExitCode::SUCCESS
+    } else {
+        ExitCode::FAILURE
+    }
+}

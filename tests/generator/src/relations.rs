@@ -1,0 +1,150 @@
+//! The short way by relations of nonterminal transitions, with a fault on
+//! demand. It is not part of the reference: it shows that faults in this way of
+//! working are found, and counts the relations of slow cards.
+
+use std::collections::HashMap;
+
+use reference::automaton::{Automaton, Missing};
+use reference::grammar::Grammar;
+use reference::lr0;
+
+#[derive(Clone, Copy, PartialEq, Eq)]
+pub enum Fault {
+    None,
+    /// The relation reads left out.
+    NoReads,
+    /// One step along reads only.
+    ReadsOnce,
+    /// The relation includes left out.
+    NoIncludes,
+    /// One step along includes only.
+    IncludesOnce,
+    /// Includes only where nothing stands behind the nonterminal.
+    IncludesAtEnd,
+    /// Includes whatever stands behind the nonterminal.
+    IncludesAlways,
+    /// One visit to each transition: those on a cycle do not share one set.
+    CyclesApart,
+    /// Only the first transition to look back to.
+    LookbackOnce,
+    /// The end marker is not read behind the start.
+    NoEnd,
+}
+
+/// Relations of nonterminal transitions, by number.
+pub struct Relations {
+    pub transitions: Vec<(usize, usize)>,
+    pub reads: Vec<Vec<usize>>,
+    pub includes: Vec<Vec<usize>>,
+}
+
+fn walk(automaton: &Automaton, from: usize, string: &[usize]) -> usize {
+    let go = |state: usize, &symbol: &usize| automaton.next[state][symbol].expect("a transition");
+    string.iter().fold(from, go)
+}
+
+pub fn relations(grammar: &Grammar, automaton: &Automaton, fault: Fault) -> Relations {
+    let card = &grammar.card;
+    let nonterminals = card.terminals..card.symbols();
+    let transitions: Vec<(usize, usize)> = (0..automaton.next.len())
+        .flat_map(|state| nonterminals.clone().map(move |symbol| (state, symbol)))
+        .filter(|&(state, symbol)| automaton.next[state][symbol].is_some())
+        .collect();
+    let number: HashMap<(usize, usize), usize> =
+        transitions.iter().enumerate().map(|(number, &transition)| (transition, number)).collect();
+    let reads = transitions
+        .iter()
+        .map(|&(state, symbol)| {
+            let to = automaton.next[state][symbol].expect("a transition");
+            let after = nonterminals.clone().filter(|&symbol| grammar.nullable[symbol]);
+            after.filter_map(|symbol| number.get(&(to, symbol)).copied()).collect()
+        })
+        .collect();
+    let mut includes = vec![Vec::new(); transitions.len()];
+    for (target, &(state, left)) in transitions.iter().enumerate() {
+        for &production in &grammar.of[left] {
+            let right = &grammar.rights[production];
+            for (at, &symbol) in right.iter().enumerate() {
+                let behind = &right[at + 1..];
+                let passes = match fault {
+                    Fault::IncludesAtEnd => behind.is_empty(),
+                    Fault::IncludesAlways => true,
+                    _ => behind.iter().all(|&s| grammar.nullable[s]),
+                };
+                if passes && !card.is_terminal(symbol) {
+                    let from = walk(automaton, state, &right[..at]);
+                    includes[number[&(from, symbol)]].push(target);
+                }
+            }
+        }
+    }
+    for related in &mut includes {
+        related.sort_unstable();
+        related.dedup();
+    }
+    Relations { transitions, reads, includes }
+}
+
+/// Joins to each set the sets of all related transitions, and of those again.
+fn complete(related: &[Vec<usize>], sets: &mut Vec<u64>, once: bool, apart: bool) {
+    fn visit(at: usize, related: &[Vec<usize>], sets: &mut [u64], seen: &mut [bool]) {
+        if !std::mem::replace(&mut seen[at], true) {
+            for &to in &related[at] {
+                visit(to, related, sets, seen);
+                sets[at] |= sets[to];
+            }
+        }
+    }
+    if apart {
+        let mut seen = vec![false; sets.len()];
+        (0..sets.len()).for_each(|at| visit(at, related, sets, &mut seen));
+        return;
+    }
+    loop {
+        let before = sets.clone();
+        for (at, related) in related.iter().enumerate() {
+            sets[at] = related.iter().fold(sets[at], |joined, &to| joined | before[to]);
+        }
+        if once || *sets == before {
+            return;
+        }
+    }
+}
+
+pub fn automaton(grammar: &Grammar, fault: Fault) -> Result<Automaton, Missing> {
+    let mut found = lr0::automaton(grammar)?;
+    let card = &grammar.card;
+    let Relations { transitions, reads, includes } = relations(grammar, &found, fault);
+    let mut sets: Vec<u64> = transitions
+        .iter()
+        .map(|&(state, symbol)| {
+            let to = found.next[state][symbol].expect("a transition");
+            let end = u64::from((state, symbol) == (0, card.start()) && fault != Fault::NoEnd);
+            let shifts = (1..card.terminals).filter(|&terminal| found.next[to][terminal].is_some());
+            shifts.fold(end, |set, terminal| set | 1 << terminal)
+        })
+        .collect();
+    let apart = fault == Fault::CyclesApart;
+    if fault != Fault::NoReads {
+        complete(&reads, &mut sets, fault == Fault::ReadsOnce, apart);
+    }
+    if fault != Fault::NoIncludes {
+        complete(&includes, &mut sets, fault == Fault::IncludesOnce, apart);
+    }
+    let mut lookaheads: HashMap<(usize, usize), u64> = HashMap::new();
+    for (number, &(state, symbol)) in transitions.iter().enumerate() {
+        for &production in &grammar.of[symbol] {
+            let end = walk(&found, state, &grammar.rights[production]);
+            let set = lookaheads.entry((end, production)).or_default();
+            if *set == 0 || fault != Fault::LookbackOnce {
+                *set |= sets[number];
+            }
+        }
+    }
+    for (state, complete) in found.complete.iter_mut().enumerate() {
+        for (production, set) in complete.iter_mut().filter(|(p, _)| *p != grammar.added()) {
+            *set = lookaheads[&(state, *production)];
+        }
+    }
+    Ok(found)
+}

@@ -1,0 +1,75 @@
+//! The reference behind the C functions, so that the C programs of the tests
+//! can be run with it as well as with the archives. Answers come from the
+//! definition as far as 20,000 LR(1) sets go, and are compared with the second
+//! way.
+
+use std::slice::{from_raw_parts, from_raw_parts_mut};
+
+use reference::answer::{generate, reference};
+
+/// # Safety
+/// Pointers and lengths must belong together; a length of 0 goes with any pointer.
+#[no_mangle]
+#[allow(clippy::too_many_arguments)]
+pub unsafe extern "C" fn sidumza_generate(
+    card: *const u16,
+    card_len: usize,
+    table: *mut u16,
+    table_len: usize,
+    work: *mut u64,
+    work_len: usize,
+    work2: *mut u32,
+    work2_len: usize,
+    out: *mut u64,
+) {
+    let numbers = generate(
+        slice(card, card_len),
+        slice_mut(table, table_len),
+        slice_mut(work, work_len),
+        slice_mut(work2, work2_len),
+        |card| reference(card, 20_000, true).answer,
+    );
+    from_raw_parts_mut(out, 5).copy_from_slice(&numbers);
+}
+
+/// # Safety
+/// As for `sidumza_generate`.
+#[no_mangle]
+#[allow(clippy::too_many_arguments)]
+pub unsafe extern "C" fn sidumza_parse(
+    table: *const u16,
+    table_len: usize,
+    input: *const u8,
+    input_len: usize,
+    stack: *mut u16,
+    stack_len: usize,
+    list: *mut u16,
+    list_len: usize,
+    step_limit: u32,
+    out: *mut u64,
+) {
+    let outcome = reference::parser::parse(
+        slice(table, table_len),
+        slice(input, input_len),
+        slice_mut(stack, stack_len),
+        slice_mut(list, list_len),
+        step_limit,
+    );
+    from_raw_parts_mut(out, 7).copy_from_slice(&outcome.out());
+}
+
+unsafe fn slice<'a, T>(from: *const T, length: usize) -> &'a [T] {
+    if length == 0 {
+        &[]
+    } else {
+        from_raw_parts(from, length)
+    }
+}
+
+unsafe fn slice_mut<'a, T>(from: *mut T, length: usize) -> &'a mut [T] {
+    if length == 0 {
+        &mut []
+    } else {
+        from_raw_parts_mut(from, length)
+    }
+}

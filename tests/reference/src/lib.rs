@@ -1,0 +1,22 @@
+//! What the generator must answer, computed slowly from the definition:
+//! canonical LR(1) sets merged by core, and beside them a second way
+//! (LR(0) sets with lookaheads spread to a fixed point). No relations of
+//! nonterminal transitions are used here: the generator works with those.
+//!
+//! The membership tests (`earley`, `spans`) know nothing of LR.
+
+#![allow(clippy::needless_range_loop, clippy::collapsible_match)]
+
+pub mod answer;
+pub mod automaton;
+pub mod card;
+pub mod derivation;
+pub mod earley;
+pub mod grammar;
+mod hash;
+pub mod items;
+pub mod lr0;
+pub mod lr1;
+pub mod parser;
+pub mod random;
+pub mod spans;

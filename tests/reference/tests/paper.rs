@@ -1,0 +1,71 @@
+//! The cards and inputs that the paper prints.
+
+use reference::answer::{reference, Answer};
+
+fn answer(card: &[u16]) -> Answer {
+    reference(card, 10_000, true).answer
+}
+
+fn rows(card: &[u16]) -> Vec<Vec<u16>> {
+    match answer(card) {
+        Answer::Table(numbers) => {
+            let sizes: Vec<usize> = numbers[..4].iter().map(|&n| n as usize).collect();
+            numbers[4 + 2 * sizes[3]..]
+                .chunks(sizes[1] + sizes[2])
+                .map(|row| row.to_vec())
+                .collect()
+        }
+        other => panic!("{other:?}"),
+    }
+}
+
+fn refused(card: &[u16]) -> [u64; 5] {
+    let answer = answer(card);
+    assert!(matches!(answer, Answer::Refused(..)), "{card:?}");
+    answer.out()
+}
+
+#[test]
+fn card_a() {
+    let table =
+        [4, 3, 1, 2, 3, 3, 2, 1, 0, 0, 1, 2, 1025, 1025, 0, 0, 4096, 3, 0, 0, 1024, 1024, 0, 0];
+    assert_eq!(answer(&[3, 1, 2, 3, 3, 3, 2, 1, 3, 1, 2]), Answer::Table(table.to_vec()));
+}
+
+#[test]
+fn small_cards() {
+    assert_eq!(rows(&[1, 1, 1, 0, 1, 0]), [[1024, 1], [4096, 0]]);
+    assert_eq!(refused(&[2, 1, 2, 3, 2, 2, 2, 1, 2, 2, 1]), [13, 3, 1, 1, 1024]);
+    assert_eq!(refused(&[2, 1, 2, 2, 2, 2, 1, 1, 2, 1]), [13, 2, 0, 1024, 4096]);
+    assert_eq!(refused(&[2, 1, 1, 1, 2, 1, 2]), [10, 2, 0, 0, 0]);
+    assert_eq!(refused(&[2, 1, 3, 3, 2, 2, 2, 0, 2, 1, 2, 2, 1]), [13, 0, 1, 1, 1024]);
+    assert_eq!(refused(&[1, 1, 2, 0, 1, 1, 0, 0]), [13, 0, 0, 1024, 1025]);
+}
+
+#[test]
+fn number_of_states() {
+    let one = |length: usize| {
+        let mut card = vec![2, 1, 1, length as u16, 2, length as u16];
+        card.extend(vec![1; length]);
+        card
+    };
+    assert_eq!(rows(&one(254)).len(), 256);
+    assert_eq!(refused(&one(255))[0], 11);
+    assert_eq!(refused(&one(512))[0], 11);
+}
+
+#[test]
+fn misreadings() {
+    let follow_per_nonterminal = [4, 3, 5, 8, 4, 4, 5, 5, 6, 3, 1, 2, 1, 1, 5, 1, 6, 6, 2, 6, 3, 5];
+    let table = rows(&follow_per_nonterminal);
+    assert_eq!((table.len(), table[4][0], table[4][1]), (10, 1028, 8));
+
+    let follow_per_state =
+        [6, 3, 6, 14, 6, 6, 6, 6, 7, 8, 3, 3, 3, 3, 1, 1, 1, 5, 4, 1, 7, 3, 2, 7, 4, 2, 5, 3, 8, 5];
+    let table = rows(&follow_per_state);
+    assert_eq!((table.len(), table[4][3], table[4][4]), (13, 1029, 9));
+
+    let unmerged =
+        [6, 3, 6, 14, 6, 6, 6, 6, 7, 8, 3, 3, 3, 3, 1, 1, 1, 7, 4, 2, 8, 4, 1, 8, 5, 2, 7, 5, 3, 3];
+    assert_eq!(refused(&unmerged), [13, 4, 4, 1028, 1029]);
+}
