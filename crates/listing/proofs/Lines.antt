@@ -12,7 +12,7 @@ use Rattle.decimal.specs.Page.{Page, pageOf, page, wroteByte, wrote}
 use Rattle.decimal.proofs.Written.{wrote-append, wrote-joined, wrote-last, wrote-front}
 use Rattle.tables.specs.Layout.{states, terminals, nonterminals, productions, width}
 use Rattle.listing.specs.Listing.{spaced, lineOf, rowOf, rowWord, colonWord, tableText, tableWord, leftWord, lengthWord, refusalText, refusedWord}
-use Rattle.listing.specs.Parts.{part, rowAt, rowsOf}
+use Rattle.listing.specs.Parts.{part, rowFrom, rowsOf}
 use Rattle.listing.proofs.Parts.{part-whole, table-parts}
 
 -- one element more of a part, and none
@@ -52,7 +52,7 @@ row-done n ns p a b c d e f g h i j =
 pub record Going (t : List ℕ) (count columns : ℕ) (start : Page) (out : List ℕ) (from n q size : ℕ) : Type 0 where
   pub same : wrote (pageOf out n) (rowsOf t q (count - q)) ≡ wrote start (rowsOf t 0 (states t))
   pub kept : length out ≡ size
-  pub place : from ≡ rowAt t q
+  pub place : from ≡ rowFrom t q
   pub wide : columns ≡ width t
   pub few : count < 65536
   pub narrow : columns < 131072
@@ -72,16 +72,16 @@ rows-start t count a b p out n e f g h = record {
 }
 
 -- the next row begins where the row ends
-pub row-next : (t : List ℕ) (q from columns : ℕ) → from ≡ rowAt t q → columns ≡ width t → from + columns ≡ rowAt t (q + 1)
+pub row-next : (t : List ℕ) (q from columns : ℕ) → from ≡ rowFrom t q → columns ≡ width t → from + columns ≡ rowFrom t (q + 1)
 row-next t q from columns e f = rw (e, f, add-one, suc-mul q (width t)) (omega arith)
 
-rows-more : (t : List ℕ) (q n from columns : ℕ) (p r : Page) → q < n → from ≡ rowAt t q → columns ≡ width t
+rows-more : (t : List ℕ) (q n from columns : ℕ) (p r : Page) → q < n → from ≡ rowFrom t q → columns ≡ width t
     → r ≡ wrote p (rowOf q (part t from (from + columns - from))) → wrote r (rowsOf t (q + 1) (n - (q + 1))) ≡ wrote p (rowsOf t q (n - q))
 unfolding rowsOf
 rows-more t q n from columns p r h e f g =
     let k : n - q ≡ suc (n - (q + 1)) = omega arith in
     let l : from + columns - from ≡ width t = omega arith in
-    rw (k, g, l, e) (wrote-append p (rowOf q (part t (rowAt t q) (width t))) (rowsOf t (q + 1) (n - (q + 1))))
+    rw (k, g, l, e) (wrote-append p (rowOf q (part t (rowFrom t q) (width t))) (rowsOf t (q + 1) (n - (q + 1))))
 
 pub rows-next : (t : List ℕ) (count columns : ℕ) (start : Page) (out : List ℕ) (from n q size : ℕ) (next : List ℕ) (m : ℕ)
     → Going t count columns start out from n q size → q < count → length next ≡ length out

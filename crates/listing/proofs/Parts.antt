@@ -11,7 +11,7 @@ use Rattle.sets.specs.Lists.{each}
 use Rattle.sets.proofs.ListLaws.{each-same}
 use Rattle.tables.specs.Layout.{states, terminals, nonterminals, productions, width, leftOf, lengthOf, cellOf}
 use Rattle.listing.specs.Listing.{lineOf, rowOf, tableText, tableWord, leftWord, lengthWord}
-use Rattle.listing.specs.Parts.{part, rowAt, rowsOf}
+use Rattle.listing.specs.Parts.{part, rowFrom, rowsOf}
 
 pub part-append : (t : List ℕ) (i m n : ℕ) → part t i (m + n) ≡ part t i m ++ part t (i + m) n
 unfolding part
@@ -38,14 +38,14 @@ each-part t i (suc n) =
     rw (each-part t i n) (sym (rw add-one at e))
 
 module _ (t : List ℕ) where
-  rows-last : (q n : ℕ) → rowsOf t q (suc n) ≡ rowsOf t q n ++ rowOf (q + n) (part t (rowAt t (q + n)) (width t))
+  rows-last : (q n : ℕ) → rowsOf t q (suc n) ≡ rowsOf t q n ++ rowOf (q + n) (part t (rowFrom t (q + n)) (width t))
   unfolding rowsOf
   rows-last q zero = rw (add-zero, append-nil) refl
   rows-last q (suc n) =
       let e : q + suc n ≡ q + 1 + n = omega arith in
-      rw (e, append-assoc) (ap (λ (l : List ℕ). rowOf q (part t (rowAt t q) (width t)) ++ l) (rows-last (q + 1) n))
+      rw (e, append-assoc) (ap (λ (l : List ℕ). rowOf q (part t (rowFrom t q) (width t)) ++ l) (rows-last (q + 1) n))
 
-  each-row : (n : ℕ) → each n (λ q. rowOf q (part t (rowAt t q) (width t))) ≡ rowsOf t 0 n
+  each-row : (n : ℕ) → each n (λ q. rowOf q (part t (rowFrom t q) (width t))) ≡ rowsOf t 0 n
   unfolding rowsOf
   each-row zero = refl
   each-row (suc n) = rw (each-row n) (sym (simp zero-add at (rows-last 0 n)))
@@ -63,4 +63,4 @@ module _ (t : List ℕ) where
   table-parts =
       rw (each-part t 4 (productions t), each-part t (4 + productions t) (productions t), ← each-row (states t))
       (ap (λ (l : List ℕ). lineOf tableWord (part t 0 4) ++ (lineOf leftWord (part t 4 (productions t)) ++ (lineOf lengthWord (part t (4 + productions t) (productions t)) ++ l)))
-      (each-same (states t) _ _ (λ q h. ap (rowOf q) (each-part t (rowAt t q) (width t)))))
+      (each-same (states t) _ _ (λ q h. ap (rowOf q) (each-part t (rowFrom t q) (width t)))))

@@ -16,7 +16,7 @@ use Rattle.decimal.proofs.Parse.{led-text}
 use Rattle.tables.specs.Layout.{states, productions, width, sizeOf}
 use Rattle.listing.specs.Listing.{spaced, lineOf, rowOf, tableText, tableWord, leftWord, lengthWord, colonWord, refusedWord, refusalText}
 use Rattle.listing.specs.Numbers.{isDigit, runs, numbersIn}
-use Rattle.listing.specs.Parts.{part, rowAt, rowsOf}
+use Rattle.listing.specs.Parts.{part, rowFrom, rowsOf}
 use Rattle.listing.proofs.Lines.{row-next}
 use Rattle.listing.proofs.Parts.{part-append, part-whole, table-parts}
 
@@ -78,13 +78,13 @@ unfolding rowsOf rowOf
 rows-fresh t q zero = refl
 rows-fresh t q (suc n) = refl
 
-rows-back : (t : List ℕ) (q n : ℕ) → runs none (rowsOf t q n) ≡ part t (rowAt t q) (n * width t)
+rows-back : (t : List ℕ) (q n : ℕ) → runs none (rowsOf t q n) ≡ part t (rowFrom t q) (n * width t)
 unfolding rowsOf runs part
 rows-back t q zero = rw zero-mul refl
 rows-back t q (suc n) =
     let e : suc n * width t ≡ width t + n * width t = rw suc-mul (omega arith) in
-    rw (row-back q (part t (rowAt t q) (width t)) (rowsOf t (q + 1) n) (rows-fresh t (q + 1) n), rows-back t (q + 1) n, ← row-next t q (rowAt t q) (width t) refl refl, e)
-    (sym (part-append t (rowAt t q) (width t) (n * width t)))
+    rw (row-back q (part t (rowFrom t q) (width t)) (rowsOf t (q + 1) n) (rows-fresh t (q + 1) n), rows-back t (q + 1) n, ← row-next t q (rowFrom t q) (width t) refl refl, e)
+    (sym (part-append t (rowFrom t q) (width t) (n * width t)))
 
 parts-join : (t : List ℕ) (n m : ℕ) → part t 0 4 ++ (part t 4 n ++ (part t (4 + n) n ++ part t (4 + n + n) m)) ≡ part t 0 (4 + (n + (n + m)))
 parts-join t n m = rw (part-append t 0 4 (n + (n + m)), part-append t 4 n (n + m), part-append t (4 + n) n m) refl
@@ -94,7 +94,7 @@ pub table-back : (t : List ℕ) → numbersIn (tableText t) ≡ part t 0 (sizeOf
 unfolding sizeOf lineOf runs isDigit
 table-back t =
     let n : ℕ = productions t in
-    let e : rowAt t 0 ≡ 4 + n + n = rw zero-mul (omega arith) in
+    let e : rowFrom t 0 ≡ 4 + n + n = rw zero-mul (omega arith) in
     let f : sizeOf t ≡ 4 + (n + (n + states t * width t)) = omega arith in
     rw (table-parts t)
     (line-back tableWord (part t 0 4) _ (λ bs. refl) refl

@@ -8,7 +8,7 @@ use Rattle.decimal.specs.Digits.{decimalOf}
 use Rattle.decimal.proofs.Decimal.{decimal-length}
 use Rattle.tables.specs.Layout.{states, productions, width}
 use Rattle.listing.specs.Listing.{spaced, lineOf, rowOf, tableText, tableWord, leftWord, lengthWord, refusalText}
-use Rattle.listing.specs.Parts.{part, rowAt, rowsOf}
+use Rattle.listing.specs.Parts.{part, rowFrom, rowsOf}
 use Rattle.listing.proofs.Parts.{table-parts}
 
 -- all numbers are of 16 bits
@@ -54,7 +54,7 @@ rows-room : (t : List ℕ) (q n : ℕ) → Small t → width t ≤ 124 → q + n
 unfolding rowsOf
 rows-room t q zero f l m = omega arith
 rows-room t q (suc n) f l m =
-    let h : length (rowOf q (part t (rowAt t q) (width t))) ≤ 12 + 6 * width t = row-room t q (rowAt t q) (width t) f (omega arith) in
+    let h : length (rowOf q (part t (rowFrom t q) (width t))) ≤ 12 + 6 * width t = row-room t q (rowFrom t q) (width t) f (omega arith) in
     let i : length (rowsOf t (q + 1) n) ≤ n * 756 = rows-room t (q + 1) n f l (omega arith) in
     simp length-append (omega arith)
 
