@@ -1,5 +1,5 @@
 -- What is written of a slice from a place on. Only private functions cite this.
-use Prim.Native.Nat.{ℕ, zero, suc, _+_, _*_}
+use Prim.Native.Nat.{ℕ, zero, suc, _+_}
 use mathlib.Core.List.{List, [], _∷_, _++_}
 use lib.ListN.{getD}
 use Rattle.tables.specs.Layout.{productions, width, rowAt}

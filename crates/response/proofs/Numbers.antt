@@ -1,7 +1,7 @@
 -- What the numbers of an answer are, for every card.
 use mathlib.Core.Path.{_≡_, refl}
 use mathlib.Core.List.{List, [], _∷_}
-use Prim.Native.Nat.{ℕ, zero, suc, _+_, _*_, _≤_, _<_}
+use Prim.Native.Nat.{ℕ, zero, suc, _+_, _≤_, _<_}
 use native.Mathlib.Omega.{arith}
 use lib.ListN.{length, getD}
 use Rattle.grammar.specs.Grammar.{Grammar, Formed}
@@ -12,7 +12,7 @@ use Rattle.lr.specs.Cells.{Action, shifts, reduces, accepts}
 use Rattle.lr.proofs.ItemLaws.{AllProductive, all-productive}
 use Rattle.lr.proofs.Paths.{state-automaton}
 use Rattle.lalr.specs.Generator.{Answer, made, refused, uselessAt, conflict, numbersOf, cardAnswer}
-use Rattle.lalr.specs.Meaning.{Judged, AllUseful}
+use Rattle.lalr.specs.Meaning.{Judged}
 use Rattle.lalr.proofs.Main.{card-answer}
 use Rattle.listing.proofs.Room.{Small}
 
