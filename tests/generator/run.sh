@@ -1,12 +1,14 @@
 #!/bin/sh
-# Tests of the generator from outside: the reference's own tests, random
-# cards, the comparison with Bison, the table of cases and the program maketable.
+# Tests of the generator from outside: the archive's symbols, the reference's own
+# tests, planted faults, random cards, the comparison with Bison, the table of
+# cases and the program maketable.
 #
 #     tests/generator/run.sh
 #
 # GENERATOR_ARCHIVE and PARSER_ARCHIVE name the archives (`rt staticlib ..`),
-# MAKETABLE the program. STAND_IN=1 runs all of it with the reference in their
-# place. SEED and CARDS are those of the random tests.
+# MAKETABLE the program; without them those of target/ are taken, and a missing
+# program is skipped. STAND_IN=1 runs all of it with the reference in their place.
+# SEED and CARDS are those of the random tests. Exit status 0: all passed.
 
 set -u
 tests=$(cd "$(dirname "$0")/.." && pwd)
@@ -23,14 +25,15 @@ if [ -n "${STAND_IN:-}" ]; then
     parser=
     MAKETABLE="$built/release/maketable"
 else
-    GENERATOR_ARCHIVE=$(realpath "${GENERATOR_ARCHIVE:-$root/target/staticlib/libgenerator_c.a}")
-    PARSER_ARCHIVE=$(realpath "${PARSER_ARCHIVE:-$root/target/staticlib/libparser_c.a}")
+    GENERATOR_ARCHIVE=$(realpath -m "${GENERATOR_ARCHIVE:-$root/target/staticlib/libgenerator_c.a}")
+    PARSER_ARCHIVE=$(realpath -m "${PARSER_ARCHIVE:-$root/target/staticlib/libparser_c.a}")
     for archive in "$GENERATOR_ARCHIVE" "$PARSER_ARCHIVE"; do
         [ -f "$archive" ] || { echo "no archive $archive"; exit 2; }
     done
     export GENERATOR_ARCHIVE PARSER_ARCHIVE
     generator=$GENERATOR_ARCHIVE
     parser=$PARSER_ARCHIVE
+    [ -n "${MAKETABLE:-}" ] || [ ! -x "$root/target/bin/maketable" ] || MAKETABLE="$root/target/bin/maketable"
 fi
 
 # Runs a step, its output into a file; prints its seconds and the last line of it.
@@ -52,11 +55,48 @@ program() {
     cc -O2 -Wall -Wextra -Werror -I"$root/bindings/c" -o "$built/$1" "$2" "$3" ${4:+"$4"} -lpthread -ldl -lm
 }
 
+# The archive exports the function and leans on nothing but the memory functions.
+symbols() {
+    nm -g --defined-only "$generator" | awk 'NF == 3 { print $3 }' | sort -u >"$built/defined"
+    grep -qx sidumza_generate "$built/defined" || { echo "no sidumza_generate"; return 1; }
+    nm -u "$generator" | awk 'NF == 2 { print $2 }' | sort -u | comm -23 - "$built/defined" >"$built/needed"
+    ! grep -vxE 'memset|memcpy|memmove' "$built/needed"
+}
+
+# The header by itself, as C and, where there is a compiler for it, as C++.
+header() {
+    cc -std=c99 -Wall -Wextra -Wpedantic -Werror -fsyntax-only -x c "$root/bindings/c/sidumza_generator.h" || return 1
+    ! command -v g++ >/dev/null ||
+        g++ -Wall -Wextra -Wpedantic -Werror -fsyntax-only -x c++ "$root/bindings/c/sidumza_generator.h"
+}
+
+# refused EDIT FILE PROGRAM..: the program, given the file with one number changed, must fail.
+refused() {
+    sed "$1" "$2" >"$built/changed.txt"
+    ! cmp -s "$2" "$built/changed.txt" || { echo "nothing changed by $1"; return 1; }
+    shift 2
+    ! "$@" "$built/changed.txt"
+}
+
+# The programs that compare find a changed cell, refusal and answer.
+comparisons_fail() {
+    cell='0,/^row 0 /s/:1 /:2 /'
+    refusal='0,/^refused 13/s/^refused 13 /refused 13 9/'
+    refused "$cell" "$tests/bison/data/small.txt" "$built/compare" &&
+        refused "$refusal" "$tests/bison/data/slow.txt" "$built/compare" &&
+        refused '0,/^answer 0 5/s/^answer 0 5/answer 0 6/' "$tests/cases/cases.txt" "$built/cases" &&
+        refused "$cell" "$tests/bison/data/small.txt" python3 "$tests/cases/maketable.py" "$built/release/maketable" &&
+        refused "$refusal" "$tests/bison/data/slow.txt" python3 "$tests/cases/maketable.py" "$built/release/maketable" &&
+        echo "5 changed files found"
+}
+
 all() {
     step reference-tests cargo test --offline --release --tests --manifest-path "$tests/reference/Cargo.toml"
     step build-reference cargo build --offline --release --manifest-path "$tests/reference/c/Cargo.toml"
     step build-maketable cargo build --offline --release --manifest-path "$tests/reference/Cargo.toml"
     step build-random cargo build --offline --release --manifest-path "$tests/generator/Cargo.toml"
+    [ -n "${STAND_IN:-}" ] || step symbols symbols
+    step header header
     step build-compare program compare "$tests/bison/compare.c" "$generator"
     step build-compare-reference program compare-reference "$tests/bison/compare.c" "$reference"
     step build-cases program cases "$tests/cases/cases.c" "$generator" "$parser"
@@ -64,11 +104,12 @@ all() {
     [ -z "$failed" ] || return
 
     step self-check "$built/release/generator-tests" self-check
+    step comparisons-fail comparisons_fail
     step random "$built/release/generator-tests" random
     if command -v bison >/dev/null; then
         step bison python3 "$tests/bison/bison.py" check
     else
-        echo "skipped bison: not installed"
+        echo "skipped bison: not installed, so its stored answers are taken as they are"
     fi
     step compare-reference "$built/compare-reference" "$tests"/bison/data/*.txt
     step compare "$built/compare" "$tests"/bison/data/*.txt
@@ -76,12 +117,10 @@ all() {
     step cases "$built/cases" "$tests/cases/cases.txt"
     if [ -n "${MAKETABLE:-}" ]; then
         step maketable python3 "$tests/cases/maketable.py" "$MAKETABLE" "$tests"/bison/data/*.txt
+        [ -n "${STAND_IN:-}" ] || step maketable-failures sh "$tests/cases/failures.sh" "$MAKETABLE"
     else
         echo "skipped maketable: MAKETABLE names no program"
     fi
-    step measure "$built/release/generator-tests" measure "$tests"/bison/data/*.txt
-    echo "slowest cards:"
-    tail -n 7 "$built/measure.out" | head -n 5
 }
 
 all

@@ -1,0 +1,11 @@
+#!/bin/sh
+# All tests from outside, as the gate runs them: makes the archives and the program, gets Bison
+# where it is missing and can be had, then tests the reader and the maker. Exit status 0: all passed.
+set -eu
+cd "$(dirname "$0")/.."
+rt staticlib parser_c
+rt staticlib generator_c
+rt check maketable
+command -v bison >/dev/null || apt-get install -y bison >/dev/null 2>&1 || echo "Bison cannot be installed here"
+sh tests/reader/run.sh
+MAKETABLE=target/bin/maketable sh tests/generator/run.sh
