@@ -6,6 +6,7 @@ cd "$(dirname "$0")/.."
 rt staticlib parser_c
 rt staticlib generator_c
 rt check maketable
-command -v bison >/dev/null || apt-get install -y bison >/dev/null 2>&1 || echo "Bison cannot be installed here"
+command -v bison >/dev/null || { apt-get install -y bison || { apt-get update && apt-get install -y bison; }; } >/dev/null 2>&1 ||
+    echo "Bison cannot be installed here"
 sh tests/reader/run.sh
 MAKETABLE=target/bin/maketable sh tests/generator/run.sh
