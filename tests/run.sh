@@ -10,3 +10,5 @@ command -v bison >/dev/null || { apt-get install -y bison || { apt-get update &&
     echo "Bison cannot be installed here"
 sh tests/reader/run.sh
 MAKETABLE=target/bin/maketable sh tests/generator/run.sh
+# the script, and the example's table
+./maketable <examples/a.card | cmp - examples/a.table
