@@ -53,6 +53,7 @@ enum {
  *   reading and writing, out for writing. A pointer whose length is 0 may be NULL.
  * - none of table, words, halves and out overlaps another of the five.
  * - nobody else writes any of the five during the call.
+ * - the thread has 640 KiB of stack left: a call can be as deep as there are transitions on nonterminals.
  * The function keeps no pointer and has no state of its own: calls from several threads are independent.
  */
 void sidumza_generate(const uint16_t *card, size_t card_len, uint16_t *table, size_t table_len, uint64_t *words,

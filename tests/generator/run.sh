@@ -100,6 +100,7 @@ all() {
     step build-compare program compare "$tests/bison/compare.c" "$generator"
     step build-compare-reference program compare-reference "$tests/bison/compare.c" "$reference"
     step build-cases program cases "$tests/cases/cases.c" "$generator" "$parser"
+    step build-stack program stack "$tests/cases/stack.c" "$generator"
     step build-cases-reference program cases-reference "$tests/cases/cases.c" "$reference"
     [ -z "$failed" ] || return
 
@@ -115,6 +116,7 @@ all() {
     step compare "$built/compare" "$tests"/bison/data/*.txt
     step cases-reference "$built/cases-reference" "$tests/cases/cases.txt"
     step cases "$built/cases" "$tests/cases/cases.txt"
+    [ -n "${STAND_IN:-}" ] || step stack "$built/stack" "$tests"/bison/data/*.txt
     if [ -n "${MAKETABLE:-}" ]; then
         step maketable python3 "$tests/cases/maketable.py" "$MAKETABLE" "$tests"/bison/data/*.txt
         [ -n "${STAND_IN:-}" ] || step maketable-failures sh "$tests/cases/failures.sh" "$MAKETABLE"
