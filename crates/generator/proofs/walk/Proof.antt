@@ -3,35 +3,39 @@ use Rattle.generator.proofs.Walks.{walk-ready, both-walks}
 use borrow.Author.Needs.{needs}
 use Rattle.generator.proofs.walk.Statement.{statement}
 use Rattle.generator.proofs.walk.Tie as tie
-use Rattle.generator.proofs.walk.Reads as reads
-use Rattle.generator.proofs.walk.Lts as lts
-use Rattle.card.proofs.wide32.Reads as wide32-reads
-use Rattle.digraph.proofs.complete.Reads as complete-reads
-use Rattle.transition_lists.proofs.direct.Reads as direct-reads
 
--- src/lib.rt:39:5
 direct-requires : tie.Need-direct-requires
 direct-requires c κs = search needs
 
--- src/lib.rt:40:9
 wide32-requires : tie.Need-wide32-requires
 wide32-requires c κs = search needs
 
--- src/lib.rt:41:5
 complete-requires : tie.Need-complete-requires
-complete-requires c κs = let d = c .before .before .before .before .before .before .before .before .before .before .pre .2 .1 in let r = walk-ready _ _ _ _ _ _ _ d (c .before .wide32 .ensures) in (r .0, r .1, omega (arith, c .before .before .before .before .before .before .before .before .before .before .pre .1, c .before .before .before .before .direct .ensures .long))
+complete-requires c κs =
+    let b1 = c .before in
+    let b4 = b1 .before .before .before in
+    let b10 = b4 .before .before .before .before .before .before in
+    let d = b10 .pre .2 .1 in let r = walk-ready _ _ _ _ _ _ _ d (b1 .wide32 .ensures) in (r .0, r .1, omega (arith, b10 .pre .1, b4 .direct .ensures .long))
 
--- src/lib.rt:42:5
 complete-requires-2 : tie.Need-complete-requires-2
-complete-requires-2 c κs = let d = c .before .before .before .before .before .before .before .before .before .before .before .before .before .before .pre .2 .1 in let r = walk-ready _ _ _ _ _ _ _ d (c .before .before .before .before .before .wide32 .ensures) in (r .0, r .1, omega (arith, c .before .before .before .before .before .before .before .before .before .before .before .before .before .before .pre .1, c .before .before .before .before .before .before .before .before .direct .ensures .long, c .before .before .before .complete .ensures .size))
+complete-requires-2 c κs =
+    let b3 = c .before .before .before in
+    let b5 = b3 .before .before in
+    let b8 = b5 .before .before .before in
+    let b14 = b8 .before .before .before .before .before .before in
+    let d = b14 .pre .2 .1 in let r = walk-ready _ _ _ _ _ _ _ d (b5 .wide32 .ensures) in (r .0, r .1, omega (arith, b14 .pre .1, b8 .direct .ensures .long, b3 .complete .ensures .size))
 
--- src/lib.rt:35:1
 same-length : tie.Need-same-length
 same-length c = search needs
 
--- src/lib.rt:35:1
 returns : tie.Need-returns
-returns c = both-walks _ _ _ _ _ _ _ _ _ _ (c .before .before .before .before .before .before .before .before .wide32 .ensures) (c .before .before .before .before .before .before .before .before .before .before .before .before .before .before .before .before .before .pre .0 .most) (c .before .before .before .before .before .before .before .before .before .before .before .direct .ensures) (c .before .before .before .before .before .before .complete .ensures) (c .before .before .complete2 .ensures)
+returns c =
+    let b2 = c .before .before in
+    let b6 = b2 .before .before .before .before in
+    let b8 = b6 .before .before in
+    let b11 = b8 .before .before .before in
+    let b17 = b11 .before .before .before .before .before .before in
+    both-walks _ _ _ _ _ _ _ _ _ _ (b8 .wide32 .ensures) (b17 .pre .0 .most) (b11 .direct .ensures) (b6 .complete .ensures) (b2 .complete2 .ensures)
 
 pub walk-spec : {M : Type 1} → statement M
 walk-spec =

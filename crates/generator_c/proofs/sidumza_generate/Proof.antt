@@ -5,32 +5,22 @@ use Rattle.sets.specs.Lists.{covered}
 use borrow.Author.Needs.{needs}
 use Rattle.generator_c.proofs.sidumza_generate.Statement.{statement}
 use Rattle.generator_c.proofs.sidumza_generate.Tie as tie
-use Rattle.generator_c.proofs.sidumza_generate.Reads as reads
-use Rattle.generator_c.proofs.sidumza_generate.Lts as lts
-use Rattle.generator.proofs.generate.Reads as generate-reads
-use Rattle.generator_c.proofs.five.Reads as five-reads
 
--- src/lib.rt:31:9
 generate-requires : tie.Need-generate-requires
 generate-requires c κs = search needs
 
--- src/lib.rt:32:12
 five-requires : tie.Need-five-requires
 five-requires c κs = search needs
 
--- src/lib.rt:21:1
 same-length : tie.Need-same-length
 same-length c = search needs
 
--- src/lib.rt:21:1
 same-length-2 : tie.Need-same-length-2
 same-length-2 c = search needs
 
--- src/lib.rt:21:1
 same-length-3 : tie.Need-same-length-3
 same-length-3 c = search needs
 
--- src/lib.rt:21:1
 returns : tie.Need-returns
 returns c = let g = c .before .before .before .before .before .before .before .generate .ensures in record { numbers = c .five .ensures ∙ ap (λ (a : Answer). covered 5 (numbersOf a) []) (g .answer); table = g .table; words = g .words; halves = g .halves }
 
