@@ -1,8 +1,8 @@
 -- A walk over the items of a set, and the closure by those of the nonterminals after the dots.
-use mathlib.Core.Bool.{true, false, true≢false, false≢true}
+use mathlib.Core.Bool.{true, true≢false, false≢true}
 use mathlib.Core.List.{List}
 use mathlib.Core.Logic.{_⊎_, inl, inr, ⊎-elim}
-use mathlib.Core.Path.{_≡_, refl, sym, ap, _∙_}
+use mathlib.Core.Path.{_≡_, sym, ap, _∙_}
 use Prim.Native.Nat.{ℕ, _+_, _-_, _*_, _/_, _%_, _≤_, _<_}
 use native.Mathlib.Nat.{not-suc-le-zero}
 use native.Mathlib.Omega.{arith}
@@ -11,10 +11,10 @@ use Rattle.closures.proofs.MaskLaws.{mask-after, after-mask}
 use Rattle.closures.proofs.NumberLaws.{after-low}
 use Rattle.closures.specs.Areas.{slot, Closures, Masks}
 use Rattle.closures.specs.Numbers.{firstOf, afterOf}
-use Rattle.closures.specs.Sets.{Reach, base, Closed, Advanced, Stays}
+use Rattle.closures.specs.Sets.{Reach, base, Closed, Advanced}
 use Rattle.grammar.proofs.CardLaws.{WellFormed}
 use Rattle.grammar.specs.Card.{terminals, nonterminals, productions, leftOf}
-use Rattle.items.specs.Item.{item, Union, Meets, Shifted, Next}
+use Rattle.items.specs.Item.{item, Union, Shifted, Next}
 use Rattle.sets.proofs.BitLaws.{bit-zero}
 use Rattle.sets.proofs.HasLaws.{lt-or-ge, or-cases, or-left, or-right}
 use Rattle.sets.specs.Bit.{bit}
@@ -110,12 +110,6 @@ slot-low z q i e =
     (lt-or-ge i 704)
 
 module _ (c z s : List ℕ) (x : ℕ) (f : WellFormed c) (m : Masks c z 704) (px : 0 < x) (h : x < terminals c + nonterminals c) where
-  before : (i : ℕ) → item s i ≡ true → item (slot z (316 + x)) i ≡ true → i < 704 → (i ≤ 640) × (afterOf c i ≡ x)
-  before i e g l = let a = mask-after c z x i m h l g in (after-low c f i (λ b. omega (arith, a)), a)
-
-  pub stays : Meets s (slot z (316 + x)) false → Stays c s x
-  stays n i l e a = n .none refl i l e (after-mask c z x i m h l a)
-
   pub advances : (k r : List ℕ) → k ≡ slot z (316 + x) → Shifted s k r → Advanced c s x r
   advances k r ek d = record {
     from = λ n e.
@@ -125,10 +119,8 @@ module _ (c z s : List ℕ) (x : ℕ) (f : WellFormed c) (m : Masks c z 704) (px
     all = λ i l e a. d .all i l e (rw ek (after-mask c z x i m h (omega arith) a));
   }
 
-  -- something is advanced where the mask is met
-  pub some-advanced : (k r : List ℕ) → k ≡ slot z (316 + x) → Shifted s k r → Meets s (slot z (316 + x)) true → (i : ℕ) × (i < 704) × (item r i ≡ true)
-  some-advanced k r ek d n =
-      let t = n .yes refl in
-      let b = before (t .0) (t .2) (t .3) (t .1) in
-      let b0 : t .0 ≤ 640 = b .0 in
-      (t .0 + 1, omega arith, d .all (t .0) (omega arith) (t .2) (rw ek (t .3)))
+  -- something is advanced where an item stands before x
+  pub some-advanced : (k r : List ℕ) → k ≡ slot z (316 + x) → Shifted s k r → (i : ℕ) × (i < 704) × (item s i ≡ true) × (afterOf c i ≡ x) → (i : ℕ) × (i < 704) × (item r i ≡ true)
+  some-advanced k r ek d t =
+      let l : t .0 ≤ 640 = after-low c f (t .0) (λ b. omega (arith, t .3)) in
+      (t .0 + 1, omega arith, d .all (t .0) (omega arith) (t .2) (rw ek (after-mask c z x (t .0) m h (t .1) (t .3))))

@@ -4,3 +4,4 @@ pub mod FillLaws
 pub mod LeadLaws
 pub mod MaskLaws
 pub mod ClosureLaws
+pub mod AfterLaws

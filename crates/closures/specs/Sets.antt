@@ -44,3 +44,8 @@ pub record Start (c r : List ℕ) : Type 0 where
 -- the same items
 abbrev pub Alike : List ℕ → List ℕ → Type 0
 Alike a b = (k : ℕ) → k < 704 → item a k ≡ item b k
+
+-- a is the symbols after the dots of the items of s below n, a set of numbers like s; 0 is in it where a dot stands last
+pub record Afters (c s : List ℕ) (n : ℕ) (a : List ℕ) : Type 0 where
+  pub all : (i : ℕ) → i < n → item s i ≡ true → item a (afterOf c i) ≡ true
+  pub from : (x : ℕ) → item a x ≡ true → (i : ℕ) × (i < n) × (item s i ≡ true) × (afterOf c i ≡ x)

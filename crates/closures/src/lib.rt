@@ -6,7 +6,7 @@ ghost use Prim.Native.Nat.{suc, _≤_, _<_};
 ghost use lib.ListN.{length};
 ghost use Rattle.grammar.specs.Card.{nonterminals, productions, lengthOf, startOf, formFault};
 ghost use Rattle.closures.specs.Numbers.{firstOf};
-ghost use Rattle.closures.specs.Sets.{Closed};
+ghost use Rattle.closures.specs.Sets.{Closed, Afters};
 ghost use Rattle.closures.specs.Areas.{Kept, Filled, Begun, Through, Widened, Led, Firsts, Closures, Masks, Masked, Prepared};
 
 // The symbols after the dots of one production's items, from the number of its first item on: its right side and a 0.
@@ -204,4 +204,19 @@ pub fn closure(c: &[u16], w: &[u32], z: &[u64], s: [u64; 11]) -> [u64; 11]
         i = items::next(s, i + 1);
     }
     r
+}
+
+// The symbols after the dots of s, 0 among them where a dot stands last: a set of numbers like s.
+pub fn afters(c: &[u16], w: &[u32], s: [u64; 11]) -> [u64; 11]
+    requires { ⌜ (formFault (now c) ≡ 0) × (704 ≤ length (now w)) × Filled (now c) (now w) 704 ⌝ }
+    ensures { λ v. ⌜ Afters (now (c .entry)) s 704 v ⌝ }
+{
+    let mut a = [0u64; 11];
+    let mut i = items::next(s, 0);
+    while i < 704 {
+        let x = card::wide32(w[i]);
+        a[x / 64] = a[x / 64] | (1 << (x % 64));
+        i = items::next(s, i + 1);
+    }
+    a
 }

@@ -2,4 +2,3 @@ pub mod ItemLaws
 pub mod AreaLaws
 pub mod NextLaws
 pub mod ShiftLaws
-pub mod MeetLaws

@@ -42,11 +42,6 @@ pub record Same (a b : List ℕ) (r : Bool) : Type 0 where
   pub words : Tells r (a ≡ b)
   pub items : Tells r ((k : ℕ) → k < 704 → item a k ≡ item b k)
 
--- r says whether a and b have an item in common
-pub record Meets (a b : List ℕ) (r : Bool) : Type 0 where
-  pub yes : r ≡ true → (k : ℕ) × (k < 704) × (item a k ≡ true) × (item b k ≡ true)
-  pub none : r ≡ false → (k : ℕ) → k < 704 → item a k ≡ true → item b k ≡ true → ⊥
-
 -- r is the numbers after those that are in a and in b
 pub record Shifted (a b r : List ℕ) : Type 0 where
   pub from : (k : ℕ) → item r k ≡ true → (i : ℕ) × (k ≡ i + 1) × (item a i ≡ true) × (item b i ≡ true)

@@ -3,7 +3,7 @@ ghost use mathlib.Core.Path.{_≡_};
 ghost use Prim.Native.Nat.{_+_, _≤_, _<_};
 ghost use lib.ListN.{length, take, drop};
 ghost use lib.Seq.{paste};
-ghost use Rattle.items.specs.Item.{Put, Empty, Next, Union, Same, Meets, Shifted};
+ghost use Rattle.items.specs.Item.{Put, Empty, Next, Union, Same, Shifted};
 
 // No item.
 pub fn empty() -> [u64; 11]
@@ -74,20 +74,6 @@ pub fn is_at(s: [u64; 11], d: &[u64], at: usize) -> bool
         i += 1;
     }
     true
-}
-
-// Whether an item of s is in the set that stands at a place.
-pub fn meets(s: [u64; 11], d: &[u64], at: usize) -> bool
-    requires { ⌜ at + 11 ≤ length (now d) ⌝ }
-    ensures { λ r. ⌜ Meets s (take 11 (drop at (now (d .entry)))) r ⌝ }
-{
-    let mut all: u64 = 0;
-    let mut i = 0;
-    while i < 11 {
-        all |= s[i] & d[at + i];
-        i += 1;
-    }
-    all != 0
 }
 
 // The numbers after those that are in s and in m.

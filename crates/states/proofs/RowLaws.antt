@@ -1,9 +1,9 @@
 -- A row of the table, cell by cell.
-use mathlib.Core.Bool.{cond}
+use mathlib.Core.Bool.{cond, false≢true}
 use mathlib.Core.List.{List, [], _∷_, _++_}
 use mathlib.Core.Logic.{⊎-elim}
 use mathlib.Core.Path.{_≡_, refl, sym, ap, _∙_}
-use Prim.Native.Nat.{ℕ, suc, _+_, _*_, _≤_, _<_}
+use Prim.Native.Nat.{ℕ, zero, suc, _+_, _*_, _^_, _≤_, _<_}
 use native.Mathlib.Nat.{add-zero, le-refl}
 use native.Mathlib.Numerals.{add-one}
 use native.Mathlib.Omega.{arith}
@@ -11,15 +11,18 @@ use lib.Dec.{eqb}
 use lib.ListN.{length, getD, set, length-set}
 use lib.Seq.{getD-set-same, getD-set-other}
 use borrow.Author.Tests.{eq-eqb, ne-eqb}
+use Rattle.closures.proofs.AfterLaws.{stays}
 use Rattle.closures.proofs.AreaLaws.{kept-same, kept-then}
-use Rattle.closures.specs.Areas.{slot, Prepared, Added}
-use Rattle.closures.specs.Sets.{Goes, Alike}
+use Rattle.closures.specs.Areas.{slot, Kept, Prepared, Added}
+use Rattle.closures.specs.Sets.{Goes, Alike, Afters}
 use Rattle.grammar.specs.Card.{terminals, nonterminals}
-use Rattle.items.specs.Item.{item}
+use Rattle.items.proofs.AreaLaws.{not-same}
+use Rattle.items.proofs.ItemLaws.{Words}
+use Rattle.items.specs.Item.{item, Next}
 use Rattle.sets.proofs.HasLaws.{lt-or-ge}
 use Rattle.sets.proofs.ListLaws.{each-same}
 use Rattle.sets.specs.Lists.{each}
-use Rattle.states.specs.Places.{Placed, found, fresh, crowded, Target, nowhere, goes}
+use Rattle.states.specs.Places.{Candidate, Placed, found, fresh, crowded, Target, Skipped}
 use Rattle.states.specs.States.{Cell, vacant, leads, Apart, Row, Crowd}
 use Rattle.lr.specs.States.{Given}
 
@@ -38,6 +41,13 @@ given-new {m = m} g = rw (add-one m) (go g)
     go (Given.known e g) = Given.known e (go g)
     go (Given.new e g) = Given.new e (go g)
 
+-- zeros, which are known numbers, from x up to y
+given-zeros : (n m x y : ℕ) (f : ℕ → ℕ) → Given n (each x (λ v. f v ∷ [])) m → 0 < m → ((k : ℕ) → x ≤ k → k < y → f k ≡ 0) → x ≤ y → Given n (each y (λ v. f v ∷ [])) m
+given-zeros n m x zero f g p h l = let e : x ≡ 0 = omega arith in rw e at g
+given-zeros n m x (suc y) f g p h l =
+    ⊎-elim (λ (d : y < x). let e : x ≡ suc y = omega arith in rw e at g)
+    (λ (d : x ≤ y). given-known (given-zeros n m x y f g p (λ k a b. h k a (omega arith)) d) (rw (h y d (omega arith)) p)) (lt-or-ge y x)
+
 -- the row, cell by cell
 abbrev cells : List ℕ → ℕ → ℕ → List ℕ
 cells t at x = each x (λ y. getD t (at + y) 0 ∷ [])
@@ -47,6 +57,93 @@ cells-set t at x p b =
     rw (add-one x)
     (ap (λ (l : List ℕ). l ++ getD (set t (at + x) p) (at + x) 0 ∷ []) (each-same x _ _ (λ i h. ap (λ (v : ℕ). v ∷ []) (getD-set-other t (at + x) (at + i) p 0 (λ e. omega arith))))
     ∙ ap (λ (v : ℕ). cells t at x ++ v ∷ []) (getD-set-same t (at + x) p 0 b))
+
+-- ---- states that are not looked for
+
+-- no state from p up to q has v as word k
+pub record Passed (z : List ℕ) (p k v q : ℕ) : Type 0 where
+  pub least : p ≤ q
+  pub gap : (j : ℕ) → p ≤ j → j < q → getD z (j * 11 + k) 0 ≡ v → ⊥
+
+pub passed-start : (z : List ℕ) (p k v : ℕ) → Passed z p k v p
+passed-start z p k v = record { least = le-refl p; gap = λ j h g. absurd (let y : ⊥ = omega arith in y) }
+
+pub passed-more : (z : List ℕ) (p k v q i m : ℕ) → Passed z p k v q → (getD z i 0 ≡ v → ⊥) → i ≡ q * 11 + k → m ≡ q + 1 → Passed z p k v m
+passed-more z p k v q i m s n e f =
+    let l : p ≤ q = s .least in
+    record {
+      least = omega arith;
+      gap = λ j h g. ⊎-elim (λ (d : j < q). s .gap j h d) (λ (d : q ≤ j). let y : j * 11 + k ≡ i = omega arith in λ u. n (ap (λ (x : ℕ). getD z x 0) (sym y) ∙ u)) (lt-or-ge j q);
+    }
+
+-- up to four of them, one after another
+module _ (z : List ℕ) (p k v q m : ℕ) (s : Passed z p k v q) (n₀ : getD z (q * 11 + k) 0 ≡ v → ⊥) where
+  pub passed-one : m ≡ q + 1 → Passed z p k v m
+  passed-one e = passed-more z p k v q (q * 11 + k) m s n₀ refl e
+
+  one : Passed z p k v (q + 1)
+  one = passed-more z p k v q (q * 11 + k) (q + 1) s n₀ refl refl
+
+  module _ (n₁ : getD z (q * 11 + k + 11) 0 ≡ v → ⊥) where
+    two : Passed z p k v (q + 2)
+    two = passed-more z p k v (q + 1) (q * 11 + k + 11) (q + 2) one n₁ (omega arith) (omega arith)
+
+    pub passed-two : m ≡ q + 2 → Passed z p k v m
+    passed-two e = rw e two
+
+    module _ (n₂ : getD z (q * 11 + k + 22) 0 ≡ v → ⊥) where
+      three : Passed z p k v (q + 3)
+      three = passed-more z p k v (q + 2) (q * 11 + k + 22) (q + 3) two n₂ (omega arith) (omega arith)
+
+      pub passed-three : m ≡ q + 3 → Passed z p k v m
+      passed-three e = rw e three
+
+      pub passed-four : (getD z (q * 11 + k + 33) 0 ≡ v → ⊥) → m ≡ q + 4 → Passed z p k v m
+      passed-four n₃ e = passed-more z p k v (q + 3) (q * 11 + k + 33) m three n₃ (omega arith) (omega arith)
+
+pub candidate-of : (z : List ℕ) (n p k v q : ℕ) → Passed z p k v q → q ≤ n → Candidate z n p k v q
+candidate-of z n p k v q s h = record { most = h; least = s .least; gap = s .gap }
+
+-- one with another word is another set
+pub other-word : (z s : List ℕ) (q k : ℕ) → q * 11 + 11 ≤ length z → length s ≡ 11 → ((j : ℕ) → getD z (q * 11 + j) 0 < 2 ^ 64) → Words s → k < 11 → (getD z (q * 11 + k) 0 ≡ getD s k 0 → ⊥) → Alike (slot z q) s → ⊥
+other-word z s q k room l f g h n a = false≢true (not-same z (q * 11) s room l f g k h n .items .so a)
+
+-- ---- cells that are 0
+
+-- the cells of the symbols from x up to k are 0, all others as in t₀
+pub record Zeros (t₀ : List ℕ) (at x k : ℕ) (t : List ℕ) : Type 0 where
+  pub least : x ≤ k
+  pub zeros : (j : ℕ) → x ≤ j → j < k → getD t (at + j) 0 ≡ 0
+  pub low : (j : ℕ) → j < at + x → getD t j 0 ≡ getD t₀ j 0
+  pub high : Kept t₀ (at + k) t
+  pub long : length t ≡ length t₀
+
+pub zeros-start : (t : List ℕ) (at x : ℕ) → Zeros t at x x t
+zeros-start t at x = record { least = le-refl x; zeros = λ j h g. absurd (let v : ⊥ = omega arith in v); low = λ j h. refl; high = kept-same t (at + x); long = refl }
+
+pub zeros-more : (t₀ : List ℕ) (at x k : ℕ) (t : List ℕ) → Zeros t₀ at x k t → at + k < length t → Zeros t₀ at x (k + 1) (set t (at + k) 0)
+zeros-more t₀ at x k t p b =
+    let le : x ≤ k = p .least in
+    record {
+      least = omega arith;
+      zeros = λ j h g.
+          ⊎-elim (λ (d : j < k). getD-set-other t (at + k) (at + j) 0 0 (λ e. omega arith) ∙ p .zeros j h d)
+          (λ (d : k ≤ j). let e : j ≡ k = omega arith in rw e (getD-set-same t (at + k) 0 0 b)) (lt-or-ge j k);
+      low = λ j h. getD-set-other t (at + k) j 0 0 (λ e. omega arith) ∙ p .low j h;
+      high = record { kept = λ j h. getD-set-other t (at + k) j 0 0 (λ e. omega arith) ∙ p .high .kept j (omega arith) };
+      long = simp length-set (p .long);
+    }
+
+pub skipped : (t₀ : List ℕ) (at x end : ℕ) (a t : List ℕ) (y m : ℕ) → end ≤ 704 → Next a x m → y ≤ m → y ≤ end → (y < end → y ≡ m) → Zeros t₀ at x y t → Skipped t₀ at x end a t y
+skipped t₀ at x end a t y m b q l h e p = record {
+  least = p .least;
+  most = h;
+  here = λ g. let v : y ≡ m = e g in rw v (q .here (omega arith));
+  gap = λ k d g. q .gap k d (omega arith);
+  zeros = p .zeros;
+  low = p .low;
+  high = p .high;
+}
 
 -- ---- states put down
 
@@ -149,9 +246,32 @@ module _ (c s z₀ : List ℕ) (n₀ : ℕ) (t₀ : List ℕ) (at : ℕ) where
     wide = l ∙ r .wide;
   }
 
+  -- the cells from x on up to the first symbol after a dot are 0
+  pub row-skip : (z : List ℕ) (n : ℕ) (t u a : List ℕ) (x end y : ℕ) → Row c s z₀ n₀ t₀ at z n t x → 0 < x → Afters c s 704 a → Skipped t at x end a u y → length u ≡ length t → Row c s z₀ n₀ t₀ at z n u y
+  row-skip z n t u a x end y r px f k l = record {
+    some = r .some;
+    most = r .most;
+    more = r .more;
+    old = r .old;
+    apart = r .apart;
+    prepared = r .prepared;
+    edge = k .low (at + 0) (omega arith) ∙ r .edge;
+    cells = λ v h g.
+        ⊎-elim
+        (λ (d : v < x). rw (k .low (at + v) (omega arith)) (r .cells v h d))
+        (λ (d : x ≤ v). rw (k .zeros v d g) (vacant (stays c s a v f (k .gap v d g))))
+        (lt-or-ge v x);
+    given = given-zeros n₀ n x y (λ v. getD u (at + v) 0) (rw (each-same x (λ v. getD u (at + v) 0 ∷ []) (λ v. getD t (at + v) 0 ∷ []) (λ i h. ap (λ (v : ℕ). v ∷ []) (k .low (at + i) (omega arith)))) (r .given)) (r .some) (k .zeros) (k .least);
+    low = λ v h. k .low v (omega arith) ∙ r .low v h;
+    high = record { kept = λ v h. k .high .kept v h ∙ r .high .kept v (let d = k .least in omega arith) };
+    behind = r .behind;
+    long = l ∙ r .long;
+    wide = r .wide;
+  }
+
   pub row-step : (z y : List ℕ) (n : ℕ) (t : List ℕ) (x p m v : ℕ) → Row c s z₀ n₀ t₀ at z n t x → terminals c + nonterminals c ≤ 124 → nonterminals c ≤ 60 → 0 < x → at + x < length t → Target c s x z n y p → (p ≡ 256 → ⊥)
       → length y ≡ length z → m ≡ cond (eqb p n) (n + 1) n → v ≡ p → Row c s z₀ n₀ t₀ at y m (set t (at + x) v) (x + 1)
-  row-step z y n t x p m v r w nm px b tg ne l em ev = rw (em, ev) (go tg ne l)
+  row-step z y n t x p m v r w nm px b tg ne l em ev = rw (em, ev) (placed (tg .set) (tg .goes) (tg .placed) ne l)
     where
       placed : {y : List ℕ} {p : ℕ} (u : List ℕ) → Goes c s x u → Placed z n u y p → (p ≡ 256 → ⊥) → length y ≡ length z
           → Row c s z₀ n₀ t₀ at y (cond (eqb p n) (n + 1) n) (set t (at + x) p) (x + 1)
@@ -159,24 +279,18 @@ module _ (c s z₀ : List ℕ) (n₀ : ℕ) (t₀ : List ℕ) (at : ℕ) where
       placed u g (fresh y h f ad) ne l = rw (eq-eqb n n refl) (row-new z y n t x u r w nm px b h f ad l g)
       placed u g (crowded h f) ne l = absurd (ne h)
 
-      go : {y : List ℕ} {p : ℕ} → Target c s x z n y p → (p ≡ 256 → ⊥) → length y ≡ length z → Row c s z₀ n₀ t₀ at y (cond (eqb p n) (n + 1) n) (set t (at + x) p) (x + 1)
-      go (nowhere h) ne l = rw (ne-eqb 0 n (λ e. let v = r .some in omega arith)) (row-known z n t x 0 r px b (r .some) (vacant h))
-      go (goes u y p g pl) ne l = placed u g pl ne l
-
   pub row-stop : (z y : List ℕ) (n : ℕ) (t : List ℕ) (x p : ℕ) → Row c s z₀ n₀ t₀ at z n t x → 0 < x → x < terminals c + nonterminals c → Target c s x z n y p → p ≡ 256 → Crowd c s z₀ n₀ t₀ at y t
-  row-stop z y n t x p r px hx tg ep = go tg ep
+  row-stop z y n t x p r px hx tg ep = placed (tg .set) (tg .goes) (tg .placed) ep
     where
       placed : {y : List ℕ} {p : ℕ} (u : List ℕ) → Goes c s x u → Placed z n u y p → p ≡ 256 → Crowd c s z₀ n₀ t₀ at y t
       placed u g (found p h f) ep = absurd (let m = r .most in omega arith)
       placed u g (fresh y h f ad) ep = absurd (omega arith)
       placed u g (crowded h f) ep = record { symbol = x; above = px; below = hx; new = u; row = rw h at r; goes = g; none = rw h at f }
 
-      go : {y : List ℕ} {p : ℕ} → Target c s x z n y p → p ≡ 256 → Crowd c s z₀ n₀ t₀ at y t
-      go (nowhere h) ep = absurd (omega arith)
-      go (goes u y p g pl) ep = placed u g pl ep
-
   pub target-low : (z y : List ℕ) (n x p : ℕ) → n ≤ 256 → Target c s x z n y p → p ≤ 256
-  target-low z y n x _ b (nowhere h) = omega arith
-  target-low z y n x _ b (goes u _ _ g (found p h f)) = omega arith
-  target-low z y n x _ b (goes u _ _ g (fresh _ h f ad)) = omega arith
-  target-low z y n x _ b (goes u _ _ g (crowded h f)) = b
+  target-low z y n x p b tg = go (tg .placed)
+    where
+      go : {y : List ℕ} {p : ℕ} {u : List ℕ} → Placed z n u y p → p ≤ 256
+      go (found p h f) = omega arith
+      go (fresh _ h f ad) = omega arith
+      go (crowded h f) = b

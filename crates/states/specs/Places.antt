@@ -1,9 +1,18 @@
--- The number of a set among the states: found, new, or too many.
+-- The number of a set among the states: found, new, or too many; and the cells of a row that are skipped.
+use mathlib.Core.Bool.{true, false}
 use mathlib.Core.List.{List}
 use mathlib.Core.Path.{_≡_}
-use Prim.Native.Nat.{ℕ, _≤_, _<_}
-use Rattle.closures.specs.Areas.{slot, Added}
-use Rattle.closures.specs.Sets.{Stays, Goes, Alike}
+use Prim.Native.Nat.{ℕ, _+_, _*_, _≤_, _<_}
+use lib.ListN.{getD}
+use Rattle.closures.specs.Areas.{slot, Kept, Added}
+use Rattle.closures.specs.Sets.{Goes, Alike}
+use Rattle.items.specs.Item.{item}
+
+-- r is the first state from p on and below n whose word k is v, or n
+pub record Candidate (z : List ℕ) (n p k v r : ℕ) : Type 0 where
+  pub most : r ≤ n
+  pub least : p ≤ r
+  pub gap : (q : ℕ) → p ≤ q → q < r → getD z (q * 11 + k) 0 ≡ v → ⊥
 
 -- r is the first of the n states that is s, or n
 pub record Found (z : List ℕ) (n : ℕ) (s : List ℕ) (r : ℕ) : Type 0 where
@@ -17,7 +26,18 @@ pub data Placed (z : List ℕ) (n : ℕ) (s : List ℕ) : List ℕ → ℕ → T
   fresh : (y : List ℕ) → n < 256 → ((q : ℕ) → q < n → Alike (slot z q) s → ⊥) → Added z n s y → Placed z n s y n
   crowded : n ≡ 256 → ((q : ℕ) → q < n → Alike (slot z q) s → ⊥) → Placed z n s z n
 
--- the number of the state to which s has a transition on x, 0 for none
-pub data Target (c s : List ℕ) (x : ℕ) (z : List ℕ) (n : ℕ) : List ℕ → ℕ → Type 0 where
-  nowhere : Stays c s x → Target c s x z n z 0
-  goes : (r y : List ℕ) (p : ℕ) → Goes c s x r → Placed z n r y p → Target c s x z n y p
+-- p is the number of the state to which s has a transition on x
+pub record Target (c s : List ℕ) (x : ℕ) (z : List ℕ) (n : ℕ) (y : List ℕ) (p : ℕ) : Type 0 where
+  pub set : List ℕ
+  pub goes : Goes c s x set
+  pub placed : Placed z n set y p
+
+-- y is the first symbol from x on that is in a, or `end`; the cells between, in the row at the place `at`, are 0 in t, all others as in t₀
+pub record Skipped (t₀ : List ℕ) (at x end : ℕ) (a t : List ℕ) (y : ℕ) : Type 0 where
+  pub least : x ≤ y
+  pub most : y ≤ end
+  pub here : y < end → item a y ≡ true
+  pub gap : (k : ℕ) → x ≤ k → k < y → item a k ≡ false
+  pub zeros : (k : ℕ) → x ≤ k → k < y → getD t (at + k) 0 ≡ 0
+  pub low : (k : ℕ) → k < at + x → getD t k 0 ≡ getD t₀ k 0
+  pub high : Kept t₀ (at + y) t

@@ -1,24 +1,42 @@
 // The states of a card by number, with their transitions, and refusal 11.
 // The slots of z, and w, are those of crate closures: slot q < 256 is state q.
 ghost use mathlib.Core.Path.{_≡_};
-ghost use mathlib.Core.Bool.{cond};
-ghost use Prim.Native.Nat.{_+_, _*_, _≤_, _<_, _^_};
+ghost use mathlib.Core.Bool.{cond, true};
+ghost use Prim.Native.Nat.{ℕ, _+_, _*_, _≤_, _<_, _^_};
 ghost use lib.Dec.{eqb};
 ghost use lib.ListN.{length, getD};
 ghost use Rattle.grammar.specs.Card.{terminals, nonterminals, formFault};
+ghost use Rattle.closures.specs.Numbers.{afterOf};
 ghost use Rattle.closures.specs.Sets.{Start};
 ghost use Rattle.closures.specs.Areas.{slot, Filled, Prepared};
-ghost use Rattle.states.specs.Places.{Found, Placed, Target};
+ghost use Rattle.items.specs.Item.{item};
+ghost use Rattle.states.specs.Places.{Candidate, Found, Placed, Target, Skipped};
 ghost use Rattle.states.specs.States.{Apart, Rowed, Stated, Built};
 
-// The first of the n states that is s, or n.
-fn find(z: &[u64], n: usize, s: [u64; 11]) -> usize
-    requires { ⌜ n * 11 ≤ length (now z) ⌝ }
-    ensures { λ v. ⌜ Found (now (z .entry)) n s v ⌝ }
+// The first state from p on and below n whose word k is v, or n.
+fn candidate(z: &[u64], n: usize, p: usize, k: usize, v: u64) -> usize
+    requires { ⌜ (p ≤ n) × (n ≤ 256) × (k < 11) × (n * 11 ≤ length (now z)) ⌝ }
+    ensures { λ r. ⌜ Candidate (now (z .entry)) n p k v r ⌝ }
 {
-    let mut q = 0;
+    let mut q = p;
+    while q + 3 < n {
+        let at = q * 11 + k;
+        if z[at] == v {
+            return q;
+        }
+        if z[at + 11] == v {
+            return q + 1;
+        }
+        if z[at + 22] == v {
+            return q + 2;
+        }
+        if z[at + 33] == v {
+            return q + 3;
+        }
+        q += 4;
+    }
     while q < n {
-        if items::is_at(s, z, q * 11) {
+        if z[q * 11 + k] == v {
             return q;
         }
         q += 1;
@@ -26,12 +44,28 @@ fn find(z: &[u64], n: usize, s: [u64; 11]) -> usize
     n
 }
 
+// The first of the n states that is s, or n. Word k is compared first, and the others only where it is the same.
+fn find(z: &[u64], n: usize, s: [u64; 11], k: usize) -> usize
+    requires { ⌜ (n ≤ 256) × (k < 11) × (n * 11 ≤ length (now z)) ⌝ }
+    ensures { λ v. ⌜ Found (now (z .entry)) n s v ⌝ }
+{
+    let v = s[k];
+    let mut q = candidate(z, n, 0, k, v);
+    while q < n {
+        if items::is_at(s, z, q * 11) {
+            return q;
+        }
+        q = candidate(z, n, q + 1, k, v);
+    }
+    n
+}
+
 // The number of the state s among n: found, or the next one, and then s is put down; 256 where there is no room for it.
-fn place(z: &mut [u64], n: usize, s: [u64; 11]) -> usize
-    requires { ⌜ (n ≤ 256) × (8192 ≤ length (now z)) ⌝ }
+fn place(z: &mut [u64], n: usize, s: [u64; 11], k: usize) -> usize
+    requires { ⌜ (n ≤ 256) × (k < 11) × (8192 ≤ length (now z)) ⌝ }
     ensures { λ v. ⌜ Placed (now (z .entry)) n s (now (z .exit)) v ⌝ }
 {
-    let q = find(z, n, s);
+    let q = find(z, n, s, k);
     if q < n {
         return q;
     }
@@ -41,18 +75,14 @@ fn place(z: &mut [u64], n: usize, s: [u64; 11]) -> usize
     n
 }
 
-// The state to which s has a transition on x, 0 for none, 256 where there is no room for it.
+// The state to which s has a transition on x, which stands after a dot of s; 256 where there is no room for it.
 fn target(c: &[u16], z: &mut [u64], w: &[u32], n: usize, s: [u64; 11], x: usize) -> usize
-    requires { ⌜ (formFault (now c) ≡ 0) × (704 ≤ length (now w)) × Filled (now c) (now w) 704 × Prepared (now c) (now z) × (n ≤ 256) × (0 < x) × (x < terminals (now c) + nonterminals (now c)) ⌝ }
+    requires { ⌜ (formFault (now c) ≡ 0) × (704 ≤ length (now w)) × Filled (now c) (now w) 704 × Prepared (now c) (now z) × (n ≤ 256) × (0 < x) × (x < terminals (now c) + nonterminals (now c)) × ((i : ℕ) × (i < 704) × (item s i ≡ true) × (afterOf (now c) i ≡ x)) ⌝ }
     ensures { λ v. ⌜ Target (now (c .entry)) s x (now (z .entry)) n (now (z .exit)) v ⌝ }
 {
-    let at = (316 + x) * 11;
-    if !items::meets(s, z, at) {
-        return 0;
-    }
-    let core = items::advance(s, items::load(z, at));
+    let core = items::advance(s, items::load(z, (316 + x) * 11));
     let d = closures::closure(c, w, z, core);
-    place(z, n, d)
+    place(z, n, d, items::next(core, 0) / 64)
 }
 
 // One more than n where p is n.
@@ -61,6 +91,27 @@ fn grown(p: usize, n: usize) -> usize
     ensures { λ r. ⌜ r ≡ cond (eqb p n) (n + 1) n ⌝ }
 {
     if p == n { n + 1 } else { n }
+}
+
+// The lesser of two numbers.
+fn least(m: usize, n: usize) -> usize
+    ensures { λ r. ⌜ (r ≤ m) × (r ≤ n) × (r < n → r ≡ m) ⌝ }
+{
+    if m < n { m } else { n }
+}
+
+// Zeros in the cells of a row from symbol x on, up to the first symbol that is in a or to the end: which it is, is the answer.
+fn skip(t: &mut [u16], at: usize, x: usize, end: usize, a: [u64; 11]) -> usize
+    requires { ⌜ (x ≤ end) × (end ≤ 704) × (at + end ≤ 32004) × (32004 ≤ length (now t)) ⌝ }
+    ensures { λ v. ⌜ Skipped (now (t .entry)) at x end a (now (t .exit)) v ⌝ }
+{
+    let y = least(items::next(a, x), end);
+    let mut k = x;
+    while k < y {
+        t[at + k] = 0;
+        k += 1;
+    }
+    y
 }
 
 // The row of the state s, from the place `at` on: its transitions on the symbols in ascending order, none on 0.
@@ -78,16 +129,21 @@ fn row(
     ensures { λ v. ⌜ Rowed (now (c .entry)) s (now (z .entry)) m (now (t .entry)) at (now (z .exit)) (now (t .exit)) v ⌝ }
 {
     let end = card::wide(card::terminals(c)) + card::wide(card::nonterminals(c));
+    let a = closures::afters(c, w, s);
     let mut n = m;
     let mut x: usize = 1;
     while x < end {
-        let p = target(c, z, w, n, s, x);
+        let y = skip(t, at, x, end, a);
+        if y == end {
+            return n;
+        }
+        let p = target(c, z, w, n, s, y);
         if p == 256 {
             return 257;
         }
-        t[at + x] = p as u16;
+        t[at + y] = p as u16;
         n = grown(p, n);
-        x += 1;
+        x = y + 1;
     }
     n
 }

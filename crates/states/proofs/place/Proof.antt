@@ -8,7 +8,7 @@ use Rattle.states.proofs.place.Statement.{statement}
 use Rattle.states.proofs.place.Tie as tie
 
 find-requires : tie.Need-find-requires
-find-requires c κs = omega arith
+find-requires c κs = search needs
 
 same-length : tie.Need-same-length
 same-length c = search needs
@@ -37,7 +37,7 @@ returns-2 c =
     let pre = c .before .before .before .before .before .before .before .before .before .pre in
     let e : find-call .result ≡ args .n = omega (arith, find-call .ensures .most, if1 .left) in
     rw (store-call .ensures)
-    (fresh _ (omega (arith, if2 .taken)) (λ q h. find-call .ensures .none q (omega arith)) (added (now (args .z)) (args .n) (args .s) (search needs) (omega (arith, if2 .taken, pre .1))))
+    (fresh _ (omega (arith, if2 .taken)) (λ q h. find-call .ensures .none q (omega arith)) (added (now (args .z)) (args .n) (args .s) (search needs) (omega (arith, if2 .taken, pre .2))))
 
 same-length-3 : tie.Need-same-length-3
 same-length-3 c = search needs
