@@ -17,7 +17,7 @@ use Rattle.sets.proofs.BitLaws.{bit-and, bit-zero, lowest-in, lowest-lt}
 use Rattle.sets.proofs.HasLaws.{lt-or-ge, has-or, or-has-l, or-has-r, has-none, cleared, clear-cases}
 use Rattle.tables.specs.Conflicts.{Single, Lowest}
 use Rattle.cells.specs.Actions.{IsCell}
-use Rattle.cells.specs.Words.{Numbers, Two, Sought, found, missing, Put, Written, kept, reduced, accepted, Row}
+use Rattle.cells.specs.Words.{Numbers, Live, Next, Two, Sought, found, missing, Put, Written, kept, reduced, accepted, Row}
 
 -- ---- below r + 1, and tests
 
@@ -85,6 +85,30 @@ module _ (A B : ℕ → Type 0) (k v m : ℕ) (old : (u : ℕ) → A u → B u) 
     );
   }
 
+-- the same numbers have A and B
+module _ (A B : ℕ → Type 0) (to : (u : ℕ) → A u → B u) (from : (u : ℕ) → B u → A u) where
+  pub counted-as : (seen twice m : ℕ) → Counted A seen twice m → Counted B seen twice m
+  counted-as seen twice m c = record {
+    some = (λ h. let s = c .some .0 h in record { number = s .number; here = to (s .number) (s .here) }, λ s. c .some .1 (record { number = s .number; here = from (s .number) (s .here) }));
+    two = (
+      λ h. let t = c .two .0 h in record { lower = t .lower; upper = t .upper; first = to (t .lower) (t .first); second = to (t .upper) (t .second); order = t .order },
+      λ t. c .two .1 (record { lower = t .lower; upper = t .upper; first = from (t .lower) (t .first); second = from (t .upper) (t .second); order = t .order }),
+    );
+  }
+
+-- the productions from a to b have no lookaheads
+abbrev pub Quiet : List ℕ → ℕ → ℕ → Type 0
+Quiet words a b = (i : ℕ) → a ≤ i → i < b → getD words i 0 ≡ 0
+
+pub quiet-next : (p : ℕ) (words live : List ℕ) (start r : ℕ) → Live p words live → Next live start r → Quiet words start r
+quiet-next p words live start r l n i h k = l .none i (n .gap i h k)
+
+pub quiet-beyond : (p : ℕ) (words live : List ℕ) (r : ℕ) → Live p words live → Quiet words p r
+quiet-beyond p words live r l i h k = l .beyond i h
+
+quiet-none : (words : List ℕ) (i m : ℕ) → getD words i 0 ≡ 0 → bit (getD words i 0) m ≡ true → ⊥
+quiet-none words i m e h = has-none m (subst (λ (x : ℕ). bit x m ≡ true) e h)
+
 -- the numbers of the first p productions, and then those of one more
 module _ (s : ℕ) (words : List ℕ) (m : ℕ) where
   -- before the first production, only the shift
@@ -105,6 +129,24 @@ module _ (s : ℕ) (words : List ℕ) (m : ℕ) where
     some = (λ h. record { number = s; here = Numbers.shifts (e .0 h) }, λ x. e .1 (shift-some (x .here)));
     two = (λ h. absurd (has-none m h), λ x. absurd (none-two (x .first) (x .second) (x .order)));
   }
+
+  -- productions without lookaheads add no number
+  module _ (a b : ℕ) (le : a ≤ b) (quiet : Quiet words a b) where
+    numbers-up : {u : ℕ} → Numbers a s words 0 m u → Numbers b s words 0 m u
+    numbers-up (Numbers.shifts h) = Numbers.shifts h
+    numbers-up (Numbers.reduces k l h) = Numbers.reduces k (omega arith) h
+    numbers-up (Numbers.accepts h) = Numbers.accepts h
+
+    numbers-down : {u : ℕ} → Numbers b s words 0 m u → Numbers a s words 0 m u
+    numbers-down (Numbers.shifts h) = Numbers.shifts h
+    numbers-down (Numbers.reduces k l h) = ⊎-elim (λ g. Numbers.reduces k g h) (λ g. absurd (quiet-none words k m (quiet k g l) h)) (lt-or-ge k a)
+    numbers-down (Numbers.accepts h) = Numbers.accepts h
+
+    pub counted-up : (seen twice : ℕ) → Counted (Numbers a s words 0 m) seen twice m → Counted (Numbers b s words 0 m) seen twice m
+    counted-up seen twice c = counted-as (Numbers a s words 0 m) (Numbers b s words 0 m) (λ u x. numbers-up x) (λ u x. numbers-down x) seen twice m c
+
+    pub counted-down : (seen twice : ℕ) → Counted (Numbers b s words 0 m) seen twice m → Counted (Numbers a s words 0 m) seen twice m
+    counted-down seen twice c = counted-as (Numbers b s words 0 m) (Numbers a s words 0 m) (λ u x. numbers-down x) (λ u x. numbers-up x) seen twice m c
 
   old-one : (r : ℕ) {u : ℕ} → Numbers r s words 0 m u → Numbers (r + 1) s words 0 m u
   old-one r (Numbers.shifts h) = Numbers.shifts h
@@ -138,10 +180,10 @@ module _ (s : ℕ) (words : List ℕ) (m : ℕ) where
     last-cases p a (Numbers.reduces k b h) = inl (Numbers.reduces k b h)
     last-cases p a (Numbers.accepts h) = inr (refl, h)
 
-    pub counted-last : (r p a seen twice : ℕ) → r ≡ p → p ≤ 128 → Counted (Numbers r s words 0 m) seen twice m → (bit (bitOr twice (bitAnd seen a)) m ≡ true) ↔ Two (Numbers p s words a m)
-    counted-last r p a seen twice e few c =
+    pub counted-last : (p a seen twice : ℕ) → p ≤ 128 → Counted (Numbers p s words 0 m) seen twice m → (bit (bitOr twice (bitAnd seen a)) m ≡ true) ↔ Two (Numbers p s words a m)
+    counted-last p a seen twice few c =
         counted-more (Numbers p s words 0 m) (Numbers p s words a m) 4096 a m (λ u x. old-last p a x) (λ h. Numbers.accepts h) (λ u x. last-cases p a x)
-        (λ u x. let z = one-below p x in omega arith) seen twice (subst (λ (x : ℕ). Counted (Numbers x s words 0 m) seen twice m) e c) .two
+        (λ u x. let z = one-below p x in omega arith) seen twice c .two
 
 -- ---- the two lowest
 
@@ -314,13 +356,30 @@ module _ (b : ℕ) (words : List ℕ) (t : List ℕ) where
     before = λ i h. p .before i h ∙ w .before i h;
   }
 
+  module _ (a d : ℕ) (le : a ≤ d) (quiet : Quiet words a d) where
+    written-up : (s m : ℕ) {v : ℕ} → Written a s words 0 m v → Written d s words 0 m v
+    written-up s m (kept h k) = kept (λ i l. ⊎-elim (h i) (λ g. ap (λ (x : ℕ). bit x m) (quiet i g l) ∙ bit-zero m) (lt-or-ge i a)) k
+    written-up s m (reduced i l h) = reduced i (omega arith) h
+    written-up s m (accepted h) = accepted h
+
+    written-down : (s m : ℕ) {v : ℕ} → Written d s words 0 m v → Written a s words 0 m v
+    written-down s m (kept h k) = kept (λ i l. h i (omega arith)) k
+    written-down s m (reduced i l h) = ⊎-elim (λ g. reduced i g h) (λ g. absurd (quiet-none words i m (quiet i g l) h)) (lt-or-ge i a)
+    written-down s m (accepted h) = accepted h
+
+    pub row-up : (t′ : List ℕ) → Row b a words 0 t t′ → Row b d words 0 t t′
+    row-up t′ w = record { long = w .long; cells = λ m. written-up (getD t (b + m) 0) m (w .cells m); before = w .before }
+
+    pub row-down : (t′ : List ℕ) → Row b d words 0 t t′ → Row b a words 0 t t′
+    row-down t′ w = record { long = w .long; cells = λ m. written-down (getD t (b + m) 0) m (w .cells m); before = w .before }
+
   old-last-row : (p a s m : ℕ) {v : ℕ} → bit a m ≡ false → Written p s words 0 m v → Written p s words a m v
   old-last-row p a s m e (kept h k) = kept h e
   old-last-row p a s m e (reduced i l h) = reduced i l h
   old-last-row p a s m e (accepted h) = absurd (has-none m h)
 
-  pub row-last : (r p a : ℕ) (t₁ t₂ : List ℕ) → r ≡ p → Row b r words 0 t t₁ → Put b a 4096 t₁ t₂ → Row b p words a t t₂
-  row-last r p a t₁ t₂ e w′ u = record {
+  pub row-last : (p a : ℕ) (t₁ t₂ : List ℕ) → Row b p words 0 t t₁ → Put b a 4096 t₁ t₂ → Row b p words a t t₂
+  row-last p a t₁ t₂ w u = record {
     long = u .long ∙ w .long;
     cells = λ m. ⊎-elim
         (λ h. subst (Written p (getD t (b + m) 0) words a m) (sym (u .here m h)) (accepted h))
@@ -328,9 +387,6 @@ module _ (b : ℕ) (words : List ℕ) (t : List ℕ) where
         (decided (bit a m));
     before = λ i h. u .before i h ∙ w .before i h;
   }
-    where
-      w : Row b p words 0 t t₁
-      w = subst (λ (x : ℕ). Row b x words 0 t t₁) e w′
 
 -- what is written is the one number
 pub written-cell : (p s : ℕ) (words : List ℕ) (accept m v : ℕ) → Single (Numbers p s words accept m) → Written p s words accept m v → IsCell (Numbers p s words accept m) v

@@ -6,12 +6,25 @@ use mathlib.Core.Bool.{true, false}
 use mathlib.Core.List.{List}
 use lib.ListN.{length, getD}
 use Rattle.sets.specs.Bit.{bit}
+use Rattle.items.specs.Item.{item}
 
 -- the numbers that stand at terminal m: s is the state that m is shifted to, 0 where it is not, p the number of productions
 pub data Numbers (p s : ℕ) (words : List ℕ) (accept m : ℕ) : ℕ → Type 0 where
   shifts : s ≢ 0 → Numbers p s words accept m s
   reduces : (r : ℕ) → r < p → bit (getD words r 0) m ≡ true → Numbers p s words accept m (1024 + r)
   accepts : bit accept m ≡ true → Numbers p s words accept m 4096
+
+-- a production that has lookaheads is one of p, and it is in the set `live`
+pub record Live (p : ℕ) (words live : List ℕ) : Type 0 where
+  pub none : (r : ℕ) → item live r ≡ false → getD words r 0 ≡ 0
+  pub beyond : (r : ℕ) → p ≤ r → getD words r 0 ≡ 0
+
+-- r is the first production from `start` on that is in the set, or 128
+pub record Next (live : List ℕ) (start r : ℕ) : Type 0 where
+  pub most : r ≤ 128
+  pub least : start ≤ r
+  pub here : r < 128 → item live r ≡ true
+  pub gap : (k : ℕ) → start ≤ k → k < r → item live k ≡ false
 
 -- two numbers have A
 pub record Two (A : ℕ → Type 0) : Type 0 where

@@ -7,24 +7,48 @@ ghost use lib.ListN.{length, take};
 ghost use Rattle.sets.specs.Bit.{bit};
 ghost use Rattle.grammar.specs.Card.{terminals as terminalsOf, productions as productionsOf};
 ghost use Rattle.tables.specs.Conflicts.{Lowest};
-ghost use Rattle.cells.specs.Words.{Numbers, Two, Sought, Put, Row};
+ghost use Rattle.cells.specs.Words.{Numbers, Live, Next, Two, Sought, Put, Row};
 ghost use Rattle.sets.specs.Lists.{covered};
 ghost use Rattle.tables.specs.Layout.{rowOf};
 ghost use Rattle.cells.specs.Areas.{tableArea, Arrays, Header};
 
+// The first production from a number on that is in the set `live`, or 128 where there is none.
+pub fn next(live: [u64; 2], start: usize) -> usize
+    requires { ⌜ start ≤ 128 ⌝ }
+    ensures { λ r. ⌜ Next live start r ⌝ }
+{
+    let k = start / 64;
+    if k == 2 {
+        return 128;
+    }
+    let v = live[k] >> (start % 64);
+    if v != 0 {
+        return start + u64::trailing_zeros(v) as usize;
+    }
+    if k == 1 {
+        return 128;
+    }
+    let u = live[1];
+    if u != 0 {
+        return 64 + u64::trailing_zeros(u) as usize;
+    }
+    128
+}
+
 // The terminals at which two numbers of a state meet: it shifts `shifts`, production r has the lookaheads words[r], and it accepts at `accept`.
-pub fn meeting(p: usize, shifts: u64, words: &[u64; 128], accept: u64) -> u64
-    requires { ⌜ p ≤ 128 ⌝ }
+// Only the productions in `live` have any.
+pub fn meeting(p: usize, shifts: u64, words: &[u64; 128], live: [u64; 2], accept: u64) -> u64
+    requires { ⌜ (p ≤ 128) × Live p (now words) live ⌝ }
     ensures { λ r. ⌜ ((m s : ℕ) → s < 1024 → (bit shifts m ≡ true) ↔ (s ≢ 0) → (bit r m ≡ true) ↔ Two (Numbers p s (now (words .entry)) accept m)) ⌝ }
 {
     let mut seen = shifts;
     let mut twice: u64 = 0;
-    let mut r: usize = 0;
+    let mut r = next(live, 0);
     while r < p {
         let v = words[r];
         twice = twice | (seen & v);
         seen = seen | v;
-        r += 1;
+        r = next(live, r + 1);
     }
     twice | (seen & accept)
 }
@@ -76,14 +100,14 @@ fn put(t: &mut [u16], b: usize, word: u64, v: u16)
 }
 
 // Writes the reductions and the acceptance of a state into its row, which begins at b.
-pub fn write(t: &mut [u16], b: usize, p: usize, words: &[u64; 128], accept: u64)
-    requires { ⌜ (p ≤ 128) × (b + 64 ≤ length (now t)) ⌝ }
+pub fn write(t: &mut [u16], b: usize, p: usize, words: &[u64; 128], live: [u64; 2], accept: u64)
+    requires { ⌜ (p ≤ 128) × (b + 64 ≤ length (now t)) × Live p (now words) live ⌝ }
     ensures { λ _. ⌜ Row b p (now (words .entry)) accept (now (t .entry)) (now (t .exit)) ⌝ }
 {
-    let mut r: usize = 0;
+    let mut r = next(live, 0);
     while r < p {
         put(t, b, words[r], 1024 + (r as u16));
-        r += 1;
+        r = next(live, r + 1);
     }
     put(t, b, accept, 4096);
 }

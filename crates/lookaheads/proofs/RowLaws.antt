@@ -6,9 +6,10 @@ use mathlib.Core.Logic.{_↔_, _≢_, _⊎_, inl, inr, ⊎-elim}
 use mathlib.Core.List.{List, []}
 use native.Mathlib.Omega.{arith}
 use native.Mathlib.Decide.{ℕ-discrete}
+use lib.Count.{trailing-le}
 use lib.ListN.{length, getD}
 use borrow.Author.Tests.{lt-ltb}
-use Rattle.sets.specs.Bit.{bit}
+use Rattle.sets.specs.Bit.{bit, Lowest as Lowest-in}
 use Rattle.sets.proofs.HasLaws.{lt-or-ge}
 use Rattle.grammar.specs.Card.{terminals, nonterminals, productions}
 use Rattle.grammar.proofs.CardLaws.{well-formed}
@@ -168,6 +169,9 @@ pub record Crossed (A : ℕ → ℕ → ℕ → Type 0) (count terminals q m : �
 -- the word has no terminal below m
 abbrev pub Clear : ℕ → ℕ → Type 0
 Clear meet m = (i : ℕ) → i < m → bit meet i ≡ false
+
+pub lowest-most : {meet m : ℕ} → Lowest-in 64 meet m → m ≤ 64
+lowest-most {meet} l = omega (arith, l .value, trailing-le 64 meet)
 
 pub clear-more : (meet m m′ : ℕ) (b : Bool) → m′ ≡ m → b ≡ bit meet m′ → b ≡ false → Clear meet m → Clear meet (m + 1)
 clear-more meet m m′ b e f g h i l = ⊎-elim (h i) (λ (d : i ≡ m). ap (bit meet) (d ∙ sym e) ∙ sym f ∙ g) (below-suc i m l)

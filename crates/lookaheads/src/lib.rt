@@ -3,15 +3,15 @@ ghost use mathlib.Core.Path.{_≡_};
 ghost use mathlib.Core.List.{List};
 ghost use Prim.Native.Nat.{ℕ, _+_, _<_, _≤_};
 ghost use lib.ListN.{length, getD};
+ghost use Rattle.items.specs.Item.{item};
 ghost use Rattle.grammar.specs.Card.{terminals, productions, lengthOf, startOf, formFault};
 ghost use Rattle.tables.specs.Layout.{rowOf};
-ghost use Rattle.transitions.specs.Area.{enteringOf};
 ghost use Rattle.transitions.specs.Next.{Numbered};
 ghost use Rattle.transitions.specs.Data.{Ordered, Holds};
 ghost use Rattle.cells.specs.Actions.{Act};
-ghost use Rattle.cells.specs.Words.{Two};
+ghost use Rattle.cells.specs.Words.{Two, Live};
 ghost use Rattle.lookaheads.specs.LooksBack.{LooksBack};
-ghost use Rattle.lookaheads.specs.Joins.{Joins, Last, Lasts, PassedOver, Accepts};
+ghost use Rattle.lookaheads.specs.Joins.{Joins, Key, Keyed, Added, Candidates, Accepts};
 ghost use Rattle.lookaheads.specs.Outcome.{Stage, Stands, Named, Searched, Filled};
 
 // s and the set of the transition from state p by the nonterminal x, where there is one.
@@ -48,70 +48,78 @@ fn lookahead(c: &[u16], w: &[u32], z: &[u64], q: u32, r: u16) -> u64
     s
 }
 
-// The last of the d symbols of a production, which begin at b, or 0 where there is none.
-fn last(c: &[u16], b: u32, d: u32) -> u32
+// What production r is kept under: the last of its d symbols, which begin at b; where it has none, 128 and its left side.
+fn key(c: &[u16], r: u16, b: u32, d: u32) -> u32
     requires { ⌜ b + d ≤ 512 ⌝ }
-    ensures { λ v. ⌜ ((r : ℕ) → b ≡ startOf (now (c .entry)) r → d ≡ lengthOf (now (c .entry)) r → Last (now (c .entry)) r v) ⌝ }
+    ensures { λ v. ⌜ (b ≡ startOf (now (c .entry)) r → d ≡ lengthOf (now (c .entry)) r → Key (now (c .entry)) r v) ⌝ }
 {
     if d == 0 {
-        return 0;
+        return 128 + card::wider(card::left(c, r));
     }
     card::wider(card::symbol(c, b + (d - 1)))
 }
 
-// The last symbols of all productions.
-fn lasts(c: &[u16]) -> [u32; 128]
+// All productions, each under its key: two words to a key.
+fn keys(c: &[u16]) -> [u64; 512]
     requires { ⌜ formFault (now c) ≡ 0 ⌝ }
-    ensures { λ s. ⌜ Lasts (now (c .entry)) s (productions (now (c .entry))) ⌝ }
+    ensures { λ s. ⌜ Keyed (now (c .entry)) s (productions (now (c .entry))) ⌝ }
 {
     let n = card::productions(c);
-    let mut s = [0u32; 128];
+    let mut s = [0u64; 512];
     let mut b: u32 = 0;
     let mut r: u16 = 0;
     while r < n {
         let d = card::wider(card::length(c, r));
-        let i = card::wide(r);
-        s[i] = last(c, b, d);
+        let i = 128 * card::wide32(key(c, r, b, d)) + card::wide(r);
+        s[i / 64] = s[i / 64] | (1 << (i % 64));
         b += d;
         r += 1;
     }
     s
 }
 
-// Whether a production whose last symbol is v is empty, or ends with the symbol x.
-fn ends(v: u32, x: u32) -> bool
-    ensures { λ e. ⌜ ((c w : List ℕ) (q r : ℕ) → x ≡ enteringOf w q → Last c r v → PassedOver c w q r e) ⌝ }
+// s and the productions that are kept under v.
+fn add(s: [u64; 2], keyed: &[u64; 512], v: u32) -> [u64; 2]
+    ensures { λ t. ⌜ Added (now (keyed .entry)) v s t ⌝ }
 {
-    if v == 0 {
-        return true;
+    let mut t = s;
+    if v < 256 {
+        let i = 2 * card::wide32(v);
+        t[0] = s[0] | keyed[i];
+        t[1] = s[1] | keyed[i + 1];
     }
-    v == x
+    t
 }
 
-// The same lookaheads; most productions are passed over. State q is entered by x, and v is the last symbol of production r.
-fn word(c: &[u16], w: &[u32], z: &[u64], q: u32, x: u32, r: u16, v: u32) -> u64
-    requires { ⌜ ((k : ℕ) × Ordered (now c) (now w) k) × (q < 256) × (r < productions (now c)) × (2048 ≤ length (now z)) × (x ≡ enteringOf (now w) q) × Last (now c) r v ⌝ }
-    ensures { λ s. ⌜ ((k : ℕ) → Ordered (now (c .entry)) (now (w .entry)) k → Holds s (LooksBack (now (c .entry)) (now (w .entry)) (now (z .entry)) k q r)) ⌝ }
+// The productions that may have lookaheads in state q: those that end with the symbol under which q is entered,
+// and the empty ones of the nonterminals that have a transition from q.
+fn candidates(w: &[u32], keyed: &[u64; 512], q: u32) -> [u64; 2]
+    requires { ⌜ ((c : List ℕ) × (k : ℕ) × Ordered c (now w) k) × (q < 256) ⌝ }
+    ensures { λ s. ⌜ ((c : List ℕ) (k : ℕ) → Ordered c (now (w .entry)) k → Keyed c (now (keyed .entry)) (productions c) → Candidates c (now (w .entry)) k q s) ⌝ }
 {
-    if ends(v, x) {
-        return lookahead(c, w, z, q, r);
+    let end = transitions::first(w, q + 1);
+    let mut i = transitions::first(w, q);
+    let mut s = add([0u64; 2], keyed, transitions::entering(w, q));
+    while i < end {
+        let more = add(s, keyed, 128 + transitions::nonterminal(w, i));
+        s = more;
+        i += 1;
     }
-    0
+    s
 }
 
-// The lookaheads of all productions in state q.
-fn words(c: &[u16], w: &[u32], z: &[u64], last: &[u32; 128], q: u32) -> [u64; 128]
-    requires { ⌜ ((k : ℕ) × Ordered (now c) (now w) k) × (q < 256) × (2048 ≤ length (now z)) × Lasts (now c) (now last) (productions (now c)) ⌝ }
-    ensures { λ s. ⌜ ((k : ℕ) → Ordered (now (c .entry)) (now (w .entry)) k → (r : ℕ) → r < productions (now (c .entry)) → Holds (getD s r 0) (LooksBack (now (c .entry)) (now (w .entry)) (now (z .entry)) k q r)) ⌝ }
+// The lookaheads of all productions in state q; only those in `live` are looked at.
+fn words(c: &[u16], w: &[u32], z: &[u64], live: [u64; 2], q: u32) -> [u64; 128]
+    requires { ⌜ ((k : ℕ) × Ordered (now c) (now w) k) × (q < 256) × (2048 ≤ length (now z)) × ((k : ℕ) → Ordered (now c) (now w) k → Candidates (now c) (now w) k q live) ⌝ }
+    ensures { λ s. ⌜ Live (productions (now (c .entry))) s live
+        × ((k : ℕ) → Ordered (now (c .entry)) (now (w .entry)) k → (r : ℕ) → r < productions (now (c .entry)) → Holds (getD s r 0) (LooksBack (now (c .entry)) (now (w .entry)) (now (z .entry)) k q r)) ⌝ }
 {
-    let n = card::productions(c);
-    let x = transitions::entering(w, q);
+    let n = card::wide(card::productions(c));
     let mut s = [0u64; 128];
-    let mut r: u16 = 0;
+    let mut r = cells::next(live, 0);
     while r < n {
-        let i = card::wide(r);
-        s[i] = word(c, w, z, q, x, r, last[i]);
-        r += 1;
+        s[r] = lookahead(c, w, z, q, r as u16);
+        r = cells::next(live, r + 1);
     }
     s
 }
@@ -152,14 +160,16 @@ pub enum Clash {
 }
 
 // The two lowest numbers at state q and terminal m, where two meet.
-fn conflict(c: &[u16], t: &[u16], w: &[u32], z: &[u64], last: &[u32; 128], q: u16, m: u16) -> Clash
-    requires { ⌜ ((k : ℕ) × Ordered (now c) (now w) k) × (q < 256) × (2048 ≤ length (now z)) × Lasts (now c) (now last) (productions (now c)) × (rowOf (now c) q ≤ 32004) ⌝ }
+fn conflict(c: &[u16], t: &[u16], w: &[u32], z: &[u64], keyed: &[u64; 512], q: u16, m: u16) -> Clash
+    requires { ⌜ ((k : ℕ) × Ordered (now c) (now w) k) × (q < 256) × (2048 ≤ length (now z)) × Keyed (now c) (now keyed) (productions (now c)) × (rowOf (now c) q ≤ 32004) ⌝ }
     ensures { λ r. ⌜ ((n k : ℕ) (next : ℕ → ℕ → ℕ) → Ordered (now (c .entry)) (now (w .entry)) k → Numbered (now (c .entry)) n next → m < terminals (now (c .entry))
         → getD (now (t .entry)) (rowOf (now (c .entry)) q + m) 0 ≡ next q m → Two (Act (now (c .entry)) next (LooksBack (now (c .entry)) (now (w .entry)) (now (z .entry)) k q) q m)
         → Named (Act (now (c .entry)) next (LooksBack (now (c .entry)) (now (w .entry)) (now (z .entry)) k q) q m) q m r) ⌝ }
 {
     let p = card::wide(card::productions(c));
-    let found = words(c, w, z, last, card::wider(q));
+    let state = card::wider(q);
+    let live = candidates(w, keyed, state);
+    let found = words(c, w, z, live, state);
     let s = card::at(t, cells::row(c, q) + card::wide(m));
     let met = cells::pair(p, s, &found, card::wider(m));
     let v = met.lower;
@@ -168,8 +178,8 @@ fn conflict(c: &[u16], t: &[u16], w: &[u32], z: &[u64], last: &[u32; 128], q: u1
 }
 
 // Writes the reductions and the acceptance of all states, up to the first cell where two actions meet.
-fn rows(c: &[u16], t: &mut [u16], w: &[u32], z: &[u64], last: &[u32; 128], n: u16) -> Clash
-    requires { ⌜ Stage (now c) (now t) (now w) (now z) n × Lasts (now c) (now last) (productions (now c)) ⌝ }
+fn rows(c: &[u16], t: &mut [u16], w: &[u32], z: &[u64], keyed: &[u64; 512], n: u16) -> Clash
+    requires { ⌜ Stage (now c) (now t) (now w) (now z) n × Keyed (now c) (now keyed) (productions (now c)) ⌝ }
     ensures { λ r. ⌜ ((k : ℕ) → Ordered (now (c .entry)) (now (w .entry)) k → Searched (now (c .entry)) (Stands (now (c .entry)) (now (t .entry)) (now (w .entry)) (now (z .entry)) n k) n (now (t .entry)) (now (t .exit)) r) ⌝ }
 {
     let terminals = card::terminals(c);
@@ -178,21 +188,23 @@ fn rows(c: &[u16], t: &mut [u16], w: &[u32], z: &[u64], last: &[u32; 128], n: u1
     let mut q: u16 = 0;
     let mut m: u16 = 0;
     'states: while q < n {
-        let found = words(c, w, z, last, card::wider(q));
+        let state = card::wider(q);
+        let live = candidates(w, keyed, state);
+        let found = words(c, w, z, live, state);
         let accept = acceptance(a, q);
-        let meet = cells::meeting(p, shifts(z, q), &found, accept);
-        m = 0;
+        let meet = cells::meeting(p, shifts(z, q), &found, live, accept);
+        m = sets::lowest(meet) as u16;
         while m < terminals {
             if sets::has(meet, card::wider(m)) {
                 break 'states;
             }
             m += 1;
         }
-        cells::write(t, cells::row(c, q), p, &found, accept);
+        cells::write(t, cells::row(c, q), p, &found, live, accept);
         q += 1;
     }
     if q < n {
-        return conflict(c, t, w, z, last, q, m);
+        return conflict(c, t, w, z, keyed, q, m);
     }
     Clash::Free
 }
@@ -202,8 +214,8 @@ pub fn fill(c: &[u16], t: &mut [u16], w: &mut [u32], z: &mut [u64], n: u16) -> C
     requires { ⌜ Stage (now c) (now t) (now w) (now z) n ⌝ }
     ensures { λ r. ⌜ Filled (now (c .entry)) (now (t .entry)) (now (w .entry)) (now (z .entry)) n (now (t .exit)) (now (w .exit)) (now (z .exit)) r ⌝ }
 {
-    let last = lasts(c);
-    let r = rows(c, t, w, z, &last, n);
+    let keyed = keys(c);
+    let r = rows(c, t, w, z, &keyed, n);
     cells::clear64(z, 0, 8192);
     cells::clear32(w, 0, 16384);
     match r {

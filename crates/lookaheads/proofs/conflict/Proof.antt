@@ -15,11 +15,19 @@ wide-requires c κs = search needs
 wider-requires : tie.Need-wider-requires
 wider-requires c κs = search needs
 
+candidates-requires : tie.Need-candidates-requires
+candidates-requires c κs =
+    let b7 = c .before .before .before .before .before .before .before in
+    ((_, _, b7 .pre .0 .1), omega (arith, c .wider .ensures, b7 .pre .1))
+
 words-requires : tie.Need-words-requires
-words-requires c κs = search needs
+words-requires c κs =
+    let b1 = c .before in
+    let b8 = b1 .before .before .before .before .before .before .before in
+    (b8 .pre .0, omega (arith, b1 .wider .ensures, b8 .pre .1), b8 .pre .2, λ k o. c .candidates .ensures _ k o (b8 .pre .3))
 
 row-requires : tie.Need-row-requires
-row-requires c κs = c .before .before .before .before .before .before .before .before .pre .4
+row-requires c κs = c .before .before .before .before .before .before .before .before .before .pre .4
 
 wide-requires-2 : tie.Need-wide-requires-2
 wide-requires-2 c κs = search needs
@@ -27,8 +35,8 @@ wide-requires-2 c κs = search needs
 add-at : tie.Need-add-at
 add-at c =
     let b1 = c .before in
-    let b10 = b1 .before .before .before .before .before .before .before .before .before in
-    let e = b1 .row .ensures in omega (arith, e, b10 .pre .4)
+    let b11 = b1 .before .before .before .before .before .before .before .before .before .before in
+    let e = b1 .row .ensures in omega (arith, e, b11 .pre .4)
 
 at-requires : tie.Need-at-requires
 at-requires c κs = search needs
@@ -38,10 +46,10 @@ wider-requires-2 c κs = search needs
 
 pair-requires : tie.Need-pair-requires
 pair-requires c κs =
-    let b7 = c .before .before .before .before .before .before .before in
-    let b8 = b7 .before in
-    let b13 = b8 .before .before .before .before .before in
-    rw (b7 .wide .ensures, b8 .productions .ensures) (few _ _ _ (b13 .pre .0 .1))
+    let b8 = c .before .before .before .before .before .before .before .before in
+    let b9 = b8 .before in
+    let b14 = b9 .before .before .before .before .before in
+    rw (b8 .wide .ensures, b9 .productions .ensures) (few _ _ _ (b14 .pre .0 .1))
 
 returns : tie.Need-returns
 returns c =
@@ -50,11 +58,12 @@ returns c =
     let b4 = b3 .before in
     let b5 = b4 .before in
     let b6 = b5 .before in
-    let b7 = b6 .before in
-    let b8 = b7 .before in
+    let b8 = b6 .before .before in
     let b9 = b8 .before in
-    let b14 = b9 .before .before .before .before .before in
-    λ n k next o numbered below e two. conflict-named _ _ _ n k next _ _ _ _ _ _ _ _ _ numbered below (b7 .wider .ensures) (b1 .wider2 .ensures) (b8 .wide .ensures ∙ b9 .productions .ensures) (b3 .at .ensures ∙ cell-at (b14 .args .t .now) (b5 .row .ensures) (b4 .wide2 .ensures) ∙ e) (b6 .words .ensures k o) (c .pair .ensures) two
+    let b10 = b9 .before in
+    let b15 = b10 .before .before .before .before .before in
+    λ n k next o numbered below e two.
+    conflict-named _ _ _ n k next _ _ _ _ _ _ _ _ _ numbered below (b8 .wider .ensures) (b1 .wider2 .ensures) (b9 .wide .ensures ∙ b10 .productions .ensures) (b3 .at .ensures ∙ cell-at (b15 .args .t .now) (b5 .row .ensures) (b4 .wide2 .ensures) ∙ e) (b6 .words .ensures .1 k o) (c .pair .ensures) two
 
 pub conflict-spec : {M : Type 1} → statement M
 conflict-spec =
@@ -63,6 +72,7 @@ conflict-spec =
     productions-requires
     wide-requires
     wider-requires
+    candidates-requires
     words-requires
     row-requires
     wide-requires-2

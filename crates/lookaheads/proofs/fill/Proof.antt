@@ -5,14 +5,14 @@ use borrow.Author.Needs.{needs}
 use Rattle.lookaheads.proofs.fill.Statement.{statement}
 use Rattle.lookaheads.proofs.fill.Tie as tie
 
-lasts-requires : tie.Need-lasts-requires
-lasts-requires c κs = c .before .before .before .before .pre .ordered .formed
+keys-requires : tie.Need-keys-requires
+keys-requires c κs = c .before .before .before .before .pre .ordered .formed
 
 rows-requires : tie.Need-rows-requires
 rows-requires c κs =
     let b4 = c .before .before .before .before in
     let b9 = b4 .before .before .before .before .before in
-    (b9 .pre, b4 .lasts .ensures)
+    (b9 .pre, b4 .keys .ensures)
 
 clear64-requires : tie.Need-clear64-requires
 clear64-requires c κs = search needs
@@ -77,7 +77,7 @@ pub fill-spec : {M : Type 1} → statement M
 fill-spec =
     tie.close
     (tie.spec
-    lasts-requires
+    keys-requires
     rows-requires
     clear64-requires
     clear32-requires

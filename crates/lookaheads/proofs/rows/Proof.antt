@@ -3,25 +3,25 @@ use mathlib.Core.Path.{sym, _∙_, subst}
 use mathlib.Core.Logic.{⊎-elim}
 use native.Mathlib.Omega.{arith}
 use borrow.Author.Needs.{needs}
-use Rattle.lookaheads.proofs.RowLaws.{row-fits, row-room, Clear, clear-more, known, rows-none, rows-more, row-as, Crossed, crossed, searched-met, searched-free}
+use Rattle.lookaheads.proofs.RowLaws.{row-fits, row-room, Clear, clear-more, lowest-most, known, rows-none, rows-more, row-as, Crossed, crossed, searched-met, searched-free}
 use Rattle.transitions.specs.Data.{Ordered}
-use Rattle.lookaheads.proofs.LookLaws.{few}
+use Rattle.lookaheads.proofs.LookLaws.{few, live-as}
 use Rattle.lookaheads.specs.Outcome.{Stands, Rows}
 use Rattle.grammar.specs.Card.{terminals}
 use Rattle.lookaheads.proofs.rows.Statement.{statement}
 use Rattle.lookaheads.proofs.rows.Tie as tie
 
 abbrev Inv-loop : tie.InvT-loop
-Inv-loop c t w z last n terminals p a q m₀ found accept meet m = Clear meet m
+Inv-loop c t w z keyed n terminals p a q m₀ state live found accept meet m = Clear meet m
 
 abbrev μ-loop : tie.MeasureT-loop
-μ-loop c t w z last n terminals p a q m₀ found accept meet m = terminals - m
+μ-loop c t w z keyed n terminals p a q m₀ state live found accept meet m = terminals - m
 
 abbrev Inv-states : tie.InvT-states
-Inv-states c t₀ w z last n terminals p a q₀ m₀ t q m = (q ≤ n) × ((k : ℕ) → Ordered c w k → Rows c (Stands c t₀ w z n k) q t₀ t)
+Inv-states c t₀ w z keyed n terminals p a q₀ m₀ t q m = (q ≤ n) × ((k : ℕ) → Ordered c w k → Rows c (Stands c t₀ w z n k) q t₀ t)
 
 abbrev μ-states : tie.MeasureT-states
-μ-states c t₀ w z last n terminals p a q₀ m₀ t q m = n - q
+μ-states c t₀ w z keyed n terminals p a q₀ m₀ t q m = n - q
 
 terminals-requires : tie.Need-terminals-requires Inv-loop μ-loop Inv-states μ-states
 terminals-requires c κs = search needs
@@ -41,30 +41,45 @@ states-holds c = (omega arith, λ k o. rows-none _ _ _ _ _ k (c .before .before 
 wider-requires : tie.Need-wider-requires Inv-loop μ-loop Inv-states μ-states
 wider-requires c κs = search needs
 
+candidates-requires : tie.Need-candidates-requires Inv-loop μ-loop Inv-states μ-states
+candidates-requires c κs =
+    let b1 = c .before in
+    let b12 = b1 .before .before .before .before .before .before .before .before .before .before .before in
+    ((_, _, b12 .pre .0 .ordered), omega (arith, c .wider .ensures, b1 .states-test .taken, b12 .pre .0 .numbered .most))
+
 words-requires : tie.Need-words-requires Inv-loop μ-loop Inv-states μ-states
 words-requires c κs =
     let b1 = c .before in
-    let b12 = b1 .before .before .before .before .before .before .before .before .before .before .before in
-    ((_, b12 .pre .0 .ordered), omega (arith, c .wider .ensures, b1 .states-test .taken, b12 .pre .0 .numbered .most), omega (arith, b12 .pre .0 .words-long), b12 .pre .1)
+    let b2 = b1 .before in
+    let b13 = b2 .before .before .before .before .before .before .before .before .before .before .before in
+    ((_, b13 .pre .0 .ordered), omega (arith, b1 .wider .ensures, b2 .states-test .taken, b13 .pre .0 .numbered .most), omega (arith, b13 .pre .0 .words-long), λ k o. c .candidates .ensures _ k o (b13 .pre .1))
 
 acceptance-requires : tie.Need-acceptance-requires Inv-loop μ-loop Inv-states μ-states
 acceptance-requires c κs = search needs
 
 shifts-requires : tie.Need-shifts-requires Inv-loop μ-loop Inv-states μ-states
 shifts-requires c κs =
-    let b3 = c .before .before .before in
-    let b14 = b3 .before .before .before .before .before .before .before .before .before .before .before in
-    omega (arith, b3 .states-test .taken, b14 .pre .0 .numbered .most, b14 .pre .0 .words-long)
+    let b4 = c .before .before .before .before in
+    let b15 = b4 .before .before .before .before .before .before .before .before .before .before .before in
+    omega (arith, b4 .states-test .taken, b15 .pre .0 .numbered .most, b15 .pre .0 .words-long)
 
 meeting-requires : tie.Need-meeting-requires Inv-loop μ-loop Inv-states μ-states
 meeting-requires c κs =
-    let b9 = c .before .before .before .before .before .before .before .before .before in
-    let b10 = b9 .before in
-    let b16 = b10 .before .before .before .before .before .before in
-    rw (b9 .wide .ensures, b10 .productions .ensures) (few _ _ _ (b16 .pre .0 .ordered))
+    let b3 = c .before .before .before in
+    let b10 = b3 .before .before .before .before .before .before .before in
+    let b11 = b10 .before in
+    let b17 = b11 .before .before .before .before .before .before in
+    let many = b10 .wide .ensures ∙ b11 .productions .ensures in
+    (omega (arith, many, few _ _ _ (b17 .pre .0 .ordered)), live-as _ _ _ _ many (b3 .words .ensures .0))
+
+lowest-requires : tie.Need-lowest-requires Inv-loop μ-loop Inv-states μ-states
+lowest-requires c κs = search needs
+
+cast-m : tie.Need-cast-m Inv-loop μ-loop Inv-states μ-states
+cast-m c = omega (arith, lowest-most (c .lowest .ensures))
 
 loop-holds : tie.Need-loop-holds Inv-loop μ-loop Inv-states μ-states
-loop-holds c = λ i h. absurd (omega arith)
+loop-holds c = c .lowest .ensures .least
 
 wider-requires-2 : tie.Need-wider-requires-2 Inv-loop μ-loop Inv-states μ-states
 wider-requires-2 c κs = search needs
@@ -87,25 +102,32 @@ loop-again c =
 
 row-requires : tie.Need-row-requires Inv-loop μ-loop Inv-states μ-states
 row-requires c κs =
-    let b9 = c .before .before .before .before .before .before .before .before .before in
-    let b20 = b9 .before .before .before .before .before .before .before .before .before .before .before in
-    row-fits _ _ _ (b20 .pre .0 .ordered) _ (omega (arith, b9 .states-test .taken, b20 .pre .0 .numbered .most))
+    let b11 = c .before .before .before .before .before .before .before .before .before .before .before in
+    let b22 = b11 .before .before .before .before .before .before .before .before .before .before .before in
+    row-fits _ _ _ (b22 .pre .0 .ordered) _ (omega (arith, b11 .states-test .taken, b22 .pre .0 .numbered .most))
 
 write-requires : tie.Need-write-requires Inv-loop μ-loop Inv-states μ-states
 write-requires c κs =
     let b1 = c .before in
-    let b11 = b1 .before .before .before .before .before .before .before .before .before .before in
-    let b12 = b11 .before in
-    let b15 = b12 .before .before .before in
-    let b16 = b15 .before in
-    let b22 = b16 .before .before .before .before .before .before in
-    (rw (b15 .wide .ensures, b16 .productions .ensures) (few _ _ _ (b22 .pre .0 .ordered)), let e = b1 .row .ensures in omega (arith, e, row-room _ _ _ (b22 .pre .0 .ordered) (b12 .states .q) (omega (arith, b11 .states-test .taken, b22 .pre .0 .numbered .most)), b12 .states .inv .1 _ (b22 .pre .0 .ordered) .long, b22 .pre .0 .table-long))
+    let b10 = b1 .before .before .before .before .before .before .before .before .before in
+    let b13 = b10 .before .before .before in
+    let b14 = b13 .before in
+    let b17 = b14 .before .before .before in
+    let b18 = b17 .before in
+    let b24 = b18 .before .before .before .before .before .before in
+    let many = b17 .wide .ensures ∙ b18 .productions .ensures in
+    let e = b1 .row .ensures in
+    let o = b24 .pre .0 .ordered in (
+      omega (arith, many, few _ _ _ o),
+      omega (arith, e, row-room _ _ _ o (b14 .states .q) (omega (arith, b13 .states-test .taken, b24 .pre .0 .numbered .most)), b14 .states .inv .1 _ o .long, b24 .pre .0 .table-long),
+      live-as _ _ _ _ many (b10 .words .ensures .0),
+    )
 
 add-q : tie.Need-add-q Inv-loop μ-loop Inv-states μ-states
 add-q c =
-    let b14 = c .before .before .before .before .before .before .before .before .before .before .before .before .before .before in
-    let b25 = b14 .before .before .before .before .before .before .before .before .before .before .before in
-    omega (arith, b14 .states-test .taken, b25 .fits .n)
+    let b16 = c .before .before .before .before .before .before .before .before .before .before .before .before .before .before .before .before in
+    let b27 = b16 .before .before .before .before .before .before .before .before .before .before .before in
+    omega (arith, b16 .states-test .taken, b27 .fits .n)
 
 states-less : tie.Need-states-less Inv-loop μ-loop Inv-states μ-states
 states-less c = search needs
@@ -116,25 +138,25 @@ states-again c =
     let b4 = b2 .before .before in
     let b6 = b4 .before .before in
     let b7 = b6 .before in
-    let b8 = b7 .before in
-    let b10 = b8 .before .before in
-    let b11 = b10 .before in
+    let b9 = b7 .before .before in
+    let b11 = b9 .before .before in
     let b12 = b11 .before in
     let b13 = b12 .before in
-    let b14 = b13 .before in
-    let b15 = b14 .before in
+    let b15 = b13 .before .before in
     let b16 = b15 .before in
-    let b18 = b16 .before .before in
-    let b19 = b18 .before in
-    let b20 = b19 .before in
-    let b25 = b20 .before .before .before .before .before in
-    let many = b18 .wide .ensures ∙ b19 .productions .ensures in (
+    let b17 = b16 .before in
+    let b18 = b17 .before in
+    let b20 = b18 .before .before in
+    let b21 = b20 .before in
+    let b22 = b21 .before in
+    let b27 = b22 .before .before .before .before .before in
+    let many = b20 .wide .ensures ∙ b21 .productions .ensures in (
       omega arith,
       λ k o.
-          rows-more _ _ _ _ _ k (b25 .pre .0) o _ _ (b15 .states .inv .1 k o) (b14 .states-test .taken) _ _ _ _
-          (known _ _ _ _ _ k (b25 .pre .0) o _ _ _ _ _ _ _ _ (b14 .states-test .taken) (b13 .wider .ensures) (b16 .target .ensures) many (b10 .shifts .ensures) (b12 .words .ensures k o)
-          (b11 .acceptance .ensures) (b8 .meeting .ensures)) _ _ _ _ (b4 .row .ensures) many (omega (arith, b6 .loop-test .left, b20 .terminals .ensures)) (b7 .loop .inv)
-          (b2 .write .ensures),
+          rows-more _ _ _ _ _ k (b27 .pre .0) o _ _ (b17 .states .inv .1 k o) (b16 .states-test .taken) _ _ _ _
+          (known _ _ _ _ _ k (b27 .pre .0) o _ _ _ _ _ _ _ _ (b16 .states-test .taken) (b15 .wider .ensures) (b18 .target .ensures) many (b11 .shifts .ensures)
+          (b13 .words .ensures .1 k o) (b12 .acceptance .ensures) (b9 .meeting .ensures)) _ _ _ _ (b4 .row .ensures) many
+          (omega (arith, b6 .loop-test .left, b22 .terminals .ensures)) (b7 .loop .inv) (b2 .write .ensures),
     )
 
 conflict-requires : tie.Need-conflict-requires Inv-loop μ-loop Inv-states μ-states
@@ -165,10 +187,10 @@ returns c =
     let x : Crossed (Stands (a .c .now) (a .t .now) (a .w .now) (a .z .now) (a .n) k) (a .n) (terminals (a .c .now)) (b4 .states .q) (b3 .states-test .m) =
     ⊎-elim (λ w. absurd (omega (arith, w .0 .left, b2 .if2 .taken)))
     (λ w.
-    subst (Crossed (Stands (a .c .now) (a .t .now) (a .w .now) (a .z .now) (a .n) k) (a .n) (terminals (a .c .now)) (b4 .states .q)) (sym (w .12))
+    subst (Crossed (Stands (a .c .now) (a .t .now) (a .w .now) (a .z .now) (a .n) k) (a .n) (terminals (a .c .now)) (b4 .states .q)) (sym (w .14))
     (crossed _ _ _ _ _ k (b14 .pre .0) o _ _ (b4 .states .inv .1 k o) (w .0 .taken) _ _ _ _
-    (known _ _ _ _ _ k (b14 .pre .0) o _ _ _ _ _ _ _ _ (w .0 .taken) (w .1 .ensures) (b5 .target .ensures) (b7 .wide .ensures ∙ b8 .productions .ensures) (w .4 .ensures)
-    (w .2 .ensures k o) (w .3 .ensures) (w .6 .ensures)) _ _ _ _ (w .8 .taken) (b9 .terminals .ensures) (w .9 .ensures) (w .10 .ensures) (w .11 .taken) (w .7 .inv)))
+    (known _ _ _ _ _ k (b14 .pre .0) o _ _ _ _ _ _ _ _ (w .0 .taken) (w .1 .ensures) (b5 .target .ensures) (b7 .wide .ensures ∙ b8 .productions .ensures) (w .5 .ensures)
+    (w .3 .ensures .1 k o) (w .4 .ensures) (w .7 .ensures)) _ _ _ _ (w .10 .taken) (b9 .terminals .ensures) (w .11 .ensures) (w .12 .ensures) (w .13 .taken) (w .9 .inv)))
     (b3 .states-test .came)
     in
     searched-met _ _ _ _ _ k (b14 .pre .0) o _ _ _ _ (b4 .states .inv .1 k o) x
@@ -201,10 +223,13 @@ rows-spec =
     target-requires
     states-holds
     wider-requires
+    candidates-requires
     words-requires
     acceptance-requires
     shifts-requires
     meeting-requires
+    lowest-requires
+    cast-m
     loop-holds
     wider-requires-2
     has-requires
