@@ -5,6 +5,7 @@ use mathlib.Core.List.{List, []}
 use Rattle.sets.specs.Lists.{covered}
 use Rattle.lalr.specs.Generator.{Generated, numbersOf}
 
+-- the five numbers and the three areas after the call are those of the definition
 pub record WritesOut (g : Generated) (out t z w : List ℕ) : Type 0 where
   pub numbers : out ≡ covered 5 (numbersOf (g .answer)) []
   pub table : t ≡ g .table

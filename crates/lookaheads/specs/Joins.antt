@@ -30,15 +30,15 @@ pub record Key (c : List ℕ) (r v : ℕ) : Type 0 where
   pub none : lengthOf c r ≡ 0 → v ≡ 128 + leftOf c r
   pub some : 0 < lengthOf c r → v ≡ symbolAt c r (lengthOf c r - 1)
 
--- s has the productions below n, each under its key: production r under v is number 128 * v + r
+-- s has at least the productions below n, each under its key: production r under v is number 128 * v + r
 abbrev pub Keyed : List ℕ → List ℕ → ℕ → Type 0
 Keyed c s n = (r v : ℕ) → r < n → Key c r v → item s (128 * v + r) ≡ true
 
--- t is s and the productions that are kept under v, a key below 256
+-- t has what is in s and the productions that are kept under v, a key below 256
 abbrev pub Added : List ℕ → ℕ → List ℕ → List ℕ → Type 0
 Added keyed v s t = (r : ℕ) → r < 128 → (item s r ≡ true) ⊎ ((v < 256) × (item keyed (128 * v + r) ≡ true)) → item t r ≡ true
 
--- the set `live` has the productions that end with the symbol under which state q is entered, and the empty ones of the nonterminals
+-- the set `live` has at least the productions that end with the symbol under which state q is entered, and the empty ones of the nonterminals
 -- that have a transition from q, one of k
 pub record Candidates (c w : List ℕ) (k q : ℕ) (live : List ℕ) : Type 0 where
   pub ending : (r : ℕ) → r < productions c → 0 < lengthOf c r → symbolAt c r (lengthOf c r - 1) ≡ enteringOf w q → item live r ≡ true

@@ -1,13 +1,14 @@
 -- A report as seven numbers: its numbers, and zeros after them.
 use Prim.Native.Nat.{ℕ}
 use mathlib.Core.Path.{_≡_}
-use mathlib.Core.List.{List, _++_}
-use lib.ListN.{take, replicate}
+use mathlib.Core.List.{List, []}
+use Rattle.sets.specs.Lists.{covered}
 use Rattle.machine.specs.Checks.{Reading}
 
 abbrev pub padded : List ℕ → List ℕ
-padded xs = take 7 (xs ++ replicate 7 0)
+padded xs = covered 7 xs []
 
+-- the seven numbers and both areas after the call are those of the definition
 pub record WritesOut (g : Reading) (out st li : List ℕ) : Type 0 where
   pub report : out ≡ padded (g .report)
   pub stack : st ≡ g .stack

@@ -27,10 +27,12 @@ pub record WithTable (g : Generated) (card input : List ℕ) (r : Reading) (a : 
   pub reads : ReadsAs r a st li
   pub demand-3 : Demand3 (grammarOf card) input r
 
+-- how the call ends, by its answer: g is what the maker gives for the card, the reader's areas were st₀ and li₀
 abbrev pub Ends : Generated → List ℕ → List ℕ → ℕ → List ℕ → List ℕ → outcomes.Outcome → List ℕ → List ℕ → Type 0
 Ends g card input limit st₀ li₀ (NoTable a) st li = WithoutTable g a st₀ li₀ st li
 Ends g card input limit st₀ li₀ (Read a) st li = WithTable g card input (reading (g .table) input st₀ li₀ limit) a st li
 
+-- the whole call, for every card, input (the paper's line), step limit (its allowance) and lent area: t, z, w, st, li are the areas after it
 pub record Recognizes (card input : List ℕ) (limit : ℕ) (t₀ z₀ w₀ st₀ li₀ : List ℕ) (r : outcomes.Outcome) (t z w st li : List ℕ) : Type 0 where
   pub outcome : Ends (generated t₀ z₀ w₀ card) card input limit st₀ li₀ r st li
   pub table : t ≡ generated t₀ z₀ w₀ card .table

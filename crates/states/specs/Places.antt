@@ -8,7 +8,7 @@ use Rattle.closures.specs.Areas.{slot, Kept, Added}
 use Rattle.closures.specs.Sets.{Goes, Alike}
 use Rattle.items.specs.Item.{item}
 
--- r is the first state from p on and below n whose word k is v, or n
+-- no state from p on and before r, which is at most n, has v as its word k: r is the next one worth a whole comparison, or n
 pub record Candidate (z : List ℕ) (n p k v r : ℕ) : Type 0 where
   pub most : r ≤ n
   pub least : p ≤ r

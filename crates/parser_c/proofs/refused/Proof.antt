@@ -1,3 +1,4 @@
+use Rattle.sets.specs.Lists.{covered}
 use mathlib.Core.Path.{sym, ap}
 use mathlib.Core.List.{_∷_, []}
 use Rattle.table_checks.specs.Verdict.{refusalNumber}
@@ -29,24 +30,31 @@ enum-told-7 : tie.Need-enum-told-7
 enum-told-7 c = search needs
 
 returns : tie.Need-returns
+unfolding covered
 returns c = ap (λ (e : Refusal). padded (refusalNumber e ∷ [])) (sym (c .enum-told .given .1))
 
 returns-2 : tie.Need-returns-2
+unfolding covered
 returns-2 c = ap (λ (e : Refusal). padded (refusalNumber e ∷ [])) (sym (c .enum-told2 .given .1))
 
 returns-3 : tie.Need-returns-3
+unfolding covered
 returns-3 c = ap (λ (e : Refusal). padded (refusalNumber e ∷ [])) (sym (c .enum-told3 .given .1))
 
 returns-4 : tie.Need-returns-4
+unfolding covered
 returns-4 c = ap (λ (e : Refusal). padded (refusalNumber e ∷ [])) (sym (c .enum-told4 .given .1))
 
 returns-5 : tie.Need-returns-5
+unfolding covered
 returns-5 c = ap (λ (e : Refusal). padded (refusalNumber e ∷ [])) (sym (c .enum-told5 .given .1))
 
 returns-6 : tie.Need-returns-6
+unfolding covered
 returns-6 c = ap (λ (e : Refusal). padded (refusalNumber e ∷ [])) (sym (c .enum-told6 .given .1))
 
 returns-7 : tie.Need-returns-7
+unfolding covered
 returns-7 c = ap (λ (e : Refusal). padded (refusalNumber e ∷ [])) (sym (c .enum-told7 .given .1))
 
 pub refused-spec : {M : Type 1} → statement M

@@ -1,3 +1,4 @@
+use Rattle.sets.specs.Lists.{covered}
 use mathlib.Core.Path.{sym, ap, _∙_}
 use Rattle.parser.specs.Answer.{numbers}
 use Rattle.parser.specs.declared.Answer.{Answer}
@@ -58,6 +59,7 @@ returns-2 : tie.Need-returns-2
 returns-2 c = c .end .ensures ∙ ap (λ (x : Answer). padded (numbers x)) (sym (c .before .before .a2 .given .1))
 
 returns-3 : tie.Need-returns-3
+unfolding covered
 returns-3 c = ap (λ (x : Answer). padded (numbers x)) (sym (c .before .before .a3 .given .1))
 
 returns-4 : tie.Need-returns-4
