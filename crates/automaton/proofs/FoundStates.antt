@@ -27,7 +27,7 @@ use Rattle.lr.proofs.Automaton.{Automaton, CoreClosure, given, opened, CoreStar
 use Rattle.lr.proofs.Paths.{closure-items, moved-item, items-behind, items-first}
 use Rattle.lr.proofs.Unique.{first-of}
 use Rattle.closures.specs.Sets.{Goes, Start, Alike}
-use Rattle.tables.specs.Layout.{rowOf}
+use Rattle.areas.specs.Areas.{rowOf}
 use Rattle.states.specs.States.{transition, Cell, vacant, leads, Apart, Crowd, Table}
 
 module _ (c : List ℕ) (f : WellFormed c) where

@@ -10,7 +10,8 @@ use lib.Seq.{length-take-le, drop-cons, set-at, getD-take, getD-drop, getD-set-s
 use lib.Arith.{digits-lt}
 use Rattle.sets.proofs.HasLaws.{lt-or-ge}
 use Rattle.grammar.specs.Card as card
-use Rattle.tables.specs.Layout.{states, terminals, nonterminals, productions, width, leftOf, lengthOf, rowOf, cellOf, sizeOf, build}
+use Rattle.tables.specs.Layout.{states, terminals, nonterminals, productions, width, leftOf, lengthOf, cellOf, sizeOf, build}
+use Rattle.areas.specs.Areas.{tableSize, rowOf}
 use Rattle.tables.proofs.LayoutLaws.{one-list, built-sizes, built-left, built-length, built-cell, built-long}
 use Rattle.cells.specs.Actions.{IsCell}
 use Rattle.sets.specs.Lists.{covered}
@@ -220,20 +221,20 @@ module _ (c : List ℕ) (n : ℕ) (t₁ t₂ : List ℕ) (wide : 0 < card.termin
       (front-states ∙ sym (s .0)) (front-terminals ∙ sym (s .1)) (front-nonterminals ∙ sym (s .2)) (front-productions ∙ sym (s .3)) front-left front-length front-cell
 
   -- the header, then zeros behind the rows
-  pub finished : (d : ℕ) (t₃ : List ℕ) → d ≡ rowOf c n → rowOf c n ≤ 32004 → t₃ ≡ covered 32004 (take d t₂) t₂ → t₃ ≡ tableArea c n t₁
+  pub finished : (d : ℕ) (t₃ : List ℕ) → d ≡ rowOf c n → rowOf c n ≤ tableSize → t₃ ≡ covered tableSize (take d t₂) t₂ → t₃ ≡ tableArea c n t₁
   unfolding rowOf tableArea
   finished d t₃ s few e =
-      e ∙ ap (λ (x : ℕ). covered 32004 (take x t₂) t₂) s ∙ ap (λ (l : List ℕ). covered 32004 l t₂) front-whole ∙ covered-same 32004 whole t₁ t₂ (h .long) (λ i g. h .behind i (omega arith))
+      e ∙ ap (λ (x : ℕ). covered tableSize (take x t₂) t₂) s ∙ ap (λ (l : List ℕ). covered tableSize l t₂) front-whole ∙ covered-same tableSize whole t₁ t₂ (h .long) (λ i g. h .behind i (omega arith))
 
 -- rows written in an area that was t₀, then header and zeros: the table
-pub tabled : (c : List ℕ) (n : ℕ) (next : ℕ → ℕ → ℕ) (A : ℕ → ℕ → ℕ → Type 0) (t₀ t₁ t₂ : List ℕ) → length t₁ ≡ length t₀ → ((i : ℕ) → 32004 ≤ i → getD t₁ i 0 ≡ getD t₀ i 0)
+pub tabled : (c : List ℕ) (n : ℕ) (next : ℕ → ℕ → ℕ) (A : ℕ → ℕ → ℕ → Type 0) (t₀ t₁ t₂ : List ℕ) → length t₁ ≡ length t₀ → ((i : ℕ) → tableSize ≤ i → getD t₁ i 0 ≡ getD t₀ i 0)
     → ((q m : ℕ) → q < n → m < card.terminals c → IsCell (A q m) (getD t₁ (rowOf c q + m) 0))
     → ((q x : ℕ) → q < n → card.terminals c ≤ x → x < card.terminals c + card.nonterminals c → getD t₁ (rowOf c q + x) 0 ≡ next q x)
     → t₂ ≡ tableArea c n t₁ → Tabled c n next A t₀ t₂
 unfolding tableArea
 tabled c n next A t₀ t₁ t₂ long beyond actions nexts e = record {
   cell = λ q x. getD t₁ (rowOf c q + x) 0;
-  area = e ∙ covered-same 32004 _ t₀ t₁ long beyond;
+  area = e ∙ covered-same tableSize _ t₀ t₁ long beyond;
   actions = actions;
   nexts = nexts;
 }

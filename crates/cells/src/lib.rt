@@ -9,7 +9,7 @@ ghost use Rattle.grammar.specs.Card.{terminals as terminalsOf, productions as p
 ghost use Rattle.tables.specs.Conflicts.{Lowest};
 ghost use Rattle.cells.specs.Words.{Numbers, Live, Next, Two, Sought, Put, Row};
 ghost use Rattle.sets.specs.Lists.{covered};
-ghost use Rattle.tables.specs.Layout.{rowOf};
+ghost use Rattle.areas.specs.Areas.{tableSize, rowOf};
 ghost use Rattle.cells.specs.Areas.{tableArea, Arrays, Header};
 
 // The first production from a number on that is in the set `live`, or 128 where there is none.
@@ -142,7 +142,7 @@ fn header(c: &[u16], t: &mut [u16], n: u16)
 
 // Where the row of state q begins, which is the size of a table of q states.
 pub fn row(c: &[u16], q: u16) -> usize
-    requires { ⌜ rowOf (now c) q ≤ 32004 ⌝ }
+    requires { ⌜ rowOf (now c) q ≤ tableSize ⌝ }
     ensures { λ r. ⌜ r ≡ rowOf (now (c .entry)) q ⌝ }
 {
     let width = card::wide(card::terminals(c)) + card::wide(card::nonterminals(c));
@@ -151,11 +151,11 @@ pub fn row(c: &[u16], q: u16) -> usize
 
 // Makes a table of n rows that stand in the table area: the header in front, zeros behind.
 pub fn finish(c: &[u16], t: &mut [u16], n: u16)
-    requires { ⌜ (0 < terminalsOf (now c)) × (rowOf (now c) n ≤ 32004) × (32004 ≤ length (now t)) ⌝ }
+    requires { ⌜ (0 < terminalsOf (now c)) × (rowOf (now c) n ≤ tableSize) × (tableSize ≤ length (now t)) ⌝ }
     ensures { λ _. ⌜ now (t .exit) ≡ tableArea (now (c .entry)) n (now (t .entry)) ⌝ }
 {
     header(c, t, n);
-    clear16(t, row(c, n), 32004);
+    clear16(t, row(c, n), areas::TABLE);
 }
 
 // Zeros the places from a to k, of numbers of each width.

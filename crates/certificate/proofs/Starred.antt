@@ -9,6 +9,7 @@ use Rattle.grammar.specs.Card
 use Rattle.grammar.specs.Card.{symbols, symbolOf, startOf, rightOf, isNonterminal, isSymbol, leftsOk, rightsOk, formFault}
 use Rattle.tables.specs.Layout
 use Rattle.tables.specs.Layout.{width, cellOf, sizeOf, build}
+use Rattle.areas.specs.Areas.{tableSize, wordsSize, halvesSize}
 use Rattle.machine.specs.Machine.{popped, topOf, actionOf, shifted, reducedTo, reduced, movedBy, after, run, start, expectedWord, expectedCount, expected, reportOf}
 use Rattle.machine.specs.Checks
 use Rattle.machine.specs.Checks.{Reading, productionOk, terminalCellOk, cellOk, rowOk, productionsOk, cellsOk, terminalOk, inputOk, refusalOf, reading}
@@ -26,7 +27,7 @@ tableIf (uselessAt n) t = []
 tableIf (conflict q m v w) t = []
 
 abbrev cardRow : List ℕ → CardRow
-cardRow c = record { card = c; numbers = numbersOf (answerOf 32004 8192 16384 c); table = tableIf (answerOf 32004 8192 16384 c) (tableOf c) }
+cardRow c = record { card = c; numbers = numbersOf (answerOf tableSize wordsSize halvesSize c); table = tableIf (answerOf tableSize wordsSize halvesSize c) (tableOf c) }
 
 pub starred-cards : map (λ (r : CardRow). cardRow (r .card)) cardRows ≡ cardRows
 unfolding bit allBelow between Card.terminals Card.nonterminals Card.productions symbols Card.leftOf Card.lengthOf symbolOf startOf rightOf Card.sizesOk isNonterminal isSymbol leftsOk rightsOk formFault nullables productive reachable uselessNonterminal firsts Lalr.states facts closure advance goto Lalr.start answerOf tableOf build

@@ -9,7 +9,7 @@ use Rattle.grammar.specs.Grammar.{Grammar, Formed, Symbols}
 use Rattle.grammar.specs.Grammar
 use Rattle.lr.proofs.Runs
 use Rattle.lr.specs.Items
-use Rattle.machine.specs.LrMachine.{peek, rest}
+use Rattle.sets.specs.Lists.{peek, rest}
 use Rattle.lr.proofs.Runs.{Act, shift, reduce, accept, wrong}
 use Rattle.lr.proofs.ItemLaws.{AllProductive, after-positive}
 use Rattle.lr.proofs.Automaton.{goes, walk, walk-snoc, table, has-of}

@@ -16,6 +16,7 @@ use Rattle.grammar.specs.Card.{terminals, nonterminals}
 use Rattle.items.specs.Item.{item, Put, Empty}
 use Rattle.sets.proofs.HasLaws.{lt-or-ge, ltb-more}
 use Rattle.sets.proofs.TestLaws.{and-true, and-right}
+use Rattle.areas.specs.Areas.{wordsSize}
 
 -- the slots of the symbols below x are empty
 pub record Clearing (z₀ z : List ℕ) (x : ℕ) : Type 0 where
@@ -48,7 +49,7 @@ cleared c z₀ z x p h = record {
 pub masked-start : (c z : List ℕ) → Masks c z 0 → Masked c z z 0
 masked-start c z m = record { masks = m; low = λ q h. refl; behind = kept-same z 4840; wide = refl }
 
-pub masked-more : (c z₀ z y m u : List ℕ) (i x : ℕ) → Masked c z₀ z i → 8192 ≤ length z → terminals c + nonterminals c ≤ 124 → i < 704 → x ≡ afterOf c i → x < terminals c + nonterminals c → m ≡ slot z (316 + x) → Put m i u → Added z (316 + x) u y
+pub masked-more : (c z₀ z y m u : List ℕ) (i x : ℕ) → Masked c z₀ z i → wordsSize ≤ length z → terminals c + nonterminals c ≤ 124 → i < 704 → x ≡ afterOf c i → x < terminals c + nonterminals c → m ≡ slot z (316 + x) → Put m i u → Added z (316 + x) u y
     → length y ≡ length z → Masked c z₀ y (i + 1)
 masked-more c z₀ z y m u i x p room w h ex hx em pu ad l = record {
   masks = λ v k b g.

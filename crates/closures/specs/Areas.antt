@@ -12,6 +12,7 @@ use Rattle.closures.specs.Sets.{Reach}
 use Rattle.grammar.specs.Card.{terminals, nonterminals, productions, leftOf}
 use Rattle.items.specs.Item.{item}
 use Rattle.sets.specs.Bit.{bit}
+use Rattle.areas.specs.Areas.{wordsSize}
 
 abbrev pub slot : List ℕ → ℕ → List ℕ
 slot l q = take 11 (drop (q * 11) l)
@@ -78,7 +79,7 @@ pub record Masked (c z₀ z : List ℕ) (n : ℕ) : Type 0 where
 pub record Prepared (c z : List ℕ) : Type 0 where
   pub closures : Closures c z (nonterminals c)
   pub masks : Masks c z 704
-  pub room : 8192 ≤ length z
+  pub room : wordsSize ≤ length z
 
 -- y is z with s in slot n
 pub record Added (z : List ℕ) (n : ℕ) (s y : List ℕ) : Type 0 where

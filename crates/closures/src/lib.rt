@@ -5,6 +5,7 @@ ghost use mathlib.Core.Path.{_≡_};
 ghost use Prim.Native.Nat.{suc, _≤_, _<_};
 ghost use lib.ListN.{length};
 ghost use Rattle.grammar.specs.Card.{nonterminals, productions, lengthOf, startOf, formFault};
+ghost use Rattle.areas.specs.Areas.{wordsSize};
 ghost use Rattle.closures.specs.Numbers.{firstOf};
 ghost use Rattle.closures.specs.Sets.{Closed, Afters};
 ghost use Rattle.closures.specs.Areas.{Kept, Filled, Begun, Through, Widened, Led, Firsts, Closures, Masks, Masked, Prepared};
@@ -137,7 +138,7 @@ fn firsts(c: &[u16], b: u64) -> [u64; 11]
 
 // The closures of the nonterminals, in their slots.
 fn fill_closures(c: &[u16], w: &[u32], z: &mut [u64])
-    requires { ⌜ (formFault (now c) ≡ 0) × (704 ≤ length (now w)) × Filled (now c) (now w) 704 × (8192 ≤ length (now z)) ⌝ }
+    requires { ⌜ (formFault (now c) ≡ 0) × (704 ≤ length (now w)) × Filled (now c) (now w) 704 × (wordsSize ≤ length (now z)) ⌝ }
     ensures { λ _. ⌜ Closures (now (c .entry)) (now (z .exit)) (nonterminals (now (c .entry))) × Kept (now (z .entry)) 3476 (now (z .exit)) ⌝ }
 {
     let n = card::wide(card::nonterminals(c));
@@ -152,7 +153,7 @@ fn fill_closures(c: &[u16], w: &[u32], z: &mut [u64])
 
 // No item before any symbol.
 fn clear_masks(c: &[u16], z: &mut [u64])
-    requires { ⌜ (formFault (now c) ≡ 0) × (8192 ≤ length (now z)) ⌝ }
+    requires { ⌜ (formFault (now c) ≡ 0) × (wordsSize ≤ length (now z)) ⌝ }
     ensures { λ _. ⌜ Masked (now (c .entry)) (now (z .entry)) (now (z .exit)) 0 ⌝ }
 {
     let n = card::wide(card::terminals(c)) + card::wide(card::nonterminals(c));
@@ -165,7 +166,7 @@ fn clear_masks(c: &[u16], z: &mut [u64])
 
 // The items before each symbol, in its slot.
 fn fill_masks(c: &[u16], w: &[u32], z: &mut [u64])
-    requires { ⌜ (formFault (now c) ≡ 0) × (704 ≤ length (now w)) × Filled (now c) (now w) 704 × (8192 ≤ length (now z)) × Masks (now c) (now z) 0 ⌝ }
+    requires { ⌜ (formFault (now c) ≡ 0) × (704 ≤ length (now w)) × Filled (now c) (now w) 704 × (wordsSize ≤ length (now z)) × Masks (now c) (now z) 0 ⌝ }
     ensures { λ _. ⌜ Masked (now (c .entry)) (now (z .entry)) (now (z .exit)) 704 ⌝ }
 {
     let mut i: usize = 0;
@@ -179,7 +180,7 @@ fn fill_masks(c: &[u16], w: &[u32], z: &mut [u64])
 
 // Closures and masks.
 pub fn prepare(c: &[u16], w: &[u32], z: &mut [u64])
-    requires { ⌜ (formFault (now c) ≡ 0) × (704 ≤ length (now w)) × Filled (now c) (now w) 704 × (8192 ≤ length (now z)) ⌝ }
+    requires { ⌜ (formFault (now c) ≡ 0) × (704 ≤ length (now w)) × Filled (now c) (now w) 704 × (wordsSize ≤ length (now z)) ⌝ }
     ensures { λ _. ⌜ Prepared (now (c .entry)) (now (z .exit)) × Kept (now (z .entry)) 4840 (now (z .exit)) ⌝ }
 {
     fill_closures(c, w, z);

@@ -8,6 +8,7 @@ use lib.Bits.{bitOr}
 use lib.ListN.{length, set, length-set}
 use lib.Seq.{getD-set-same, getD-set-other}
 use Rattle.sets.specs.Bit.{Has}
+use Rattle.areas.specs.Areas.{wordsSize}
 use Rattle.digraph.specs.Completion.{Completed, at}
 use Rattle.digraph.specs.Completion.Reaches.{here}
 use Rattle.digraph.specs.Walk.{Room, Kept, Entered, Visited, Scanned, Popped, Finished, Cleared, None, unvisited, numIn, stkIn, Inv, Frame, Ended, Scan, InvIn, ScanIn, FrameIn}
@@ -34,7 +35,7 @@ pub num-set : (z : List ℕ) (x a v : ℕ) → x < 2048 → numIn (set z x a) v 
 num-set z x a v h = getD-set-other z x (2048 + v) a 0 (λ e. omega arith)
 
 -- one number more is cleared
-pub clear-more : (z0 z : List ℕ) (i : ℕ) → i < 2048 → 8192 ≤ length z → Cleared i z0 z → Cleared (i + 1) z0 (set z (2048 + i) 0)
+pub clear-more : (z0 z : List ℕ) (i : ℕ) → i < 2048 → wordsSize ≤ length z → Cleared i z0 z → Cleared (i + 1) z0 (set z (2048 + i) 0)
 clear-more z0 z i small long C = record {
   numbers = λ v h. ⊎-elim (λ l. getD-set-other z (2048 + i) (2048 + v) 0 0 (λ e. omega arith) ∙ C .numbers v l)
       (λ q. ap (numIn (set z (2048 + i) 0)) q ∙ getD-set-same z (2048 + i) 0 0 (omega arith)) (below-suc h);
@@ -47,7 +48,7 @@ kept-same R = record { room = R; grows = omega arith; visited = λ v h e. e; res
 
 -- ---- one position more is popped
 module _ (k d depth s : ℕ) (z0 z : List ℕ) (nodes : (p : ℕ) → p < depth → stkIn z0 p < k) (P : Popped k d depth s z0 z) (pos : 0 < d) (le : d ≤ depth)
-    (small : k ≤ 2048) (long : 8192 ≤ length z) where
+    (small : k ≤ 2048) (long : wordsSize ≤ length z) where
   pop-read : stkIn z (d - 1) ≡ stkIn z0 (d - 1)
   pop-read = P .rest (4096 + (d - 1)) (omega arith)
 
@@ -278,7 +279,7 @@ module _ (E : ℕ → ℕ → Type 0) (k : ℕ) (z : List ℕ) (d x : ℕ) where
       }
 
 -- ---- the walk: from an empty stack to an empty stack
-pub empty-room : (k : ℕ) (z : List ℕ) → k ≤ 2048 → 8192 ≤ length z → Room k z 0
+pub empty-room : (k : ℕ) (z : List ℕ) → k ≤ 2048 → wordsSize ≤ length z → Room k z 0
 empty-room k z small long = record { small = small; long = long; deep = omega (arith, unvisited-le (numIn z) k); node = λ p h. absurd (omega arith) }
 
 module _ (E : ℕ → ℕ → Type 0) (k : ℕ) (z : List ℕ) where

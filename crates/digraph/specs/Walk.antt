@@ -9,6 +9,7 @@ use Prim.Native.Nat.{ℕ, _+_, _-_, _≤_, _<_}
 use lib.Dec.{eqb}
 use lib.ListN.{length}
 use Rattle.sets.specs.Bit.{Has, count}
+use Rattle.areas.specs.Areas.{wordsSize}
 use Rattle.digraph.specs.Completion.{Reaches, Join, at}
 
 -- how many of the nodes 0, .., k - 1 are not visited
@@ -76,7 +77,7 @@ stkIn z p = at z (4096 + p)
 -- the area is long enough, and the stack has room for each node not visited
 pub record Room (k : ℕ) (z : List ℕ) (d : ℕ) : Type 0 where
   pub small : k ≤ 2048
-  pub long : 8192 ≤ length z
+  pub long : wordsSize ≤ length z
   pub deep : d + unvisited (numIn z) k ≤ k
   pub node : (p : ℕ) → p < d → stkIn z p < k
 

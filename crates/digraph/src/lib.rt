@@ -6,6 +6,7 @@ ghost use mathlib.Core.Path.{_≡_};
 ghost use Prim.Native.Nat.{ℕ, _+_, _<_, _≤_, min};
 ghost use lib.ListN.{length, set};
 ghost use lib.Bits.{bitOr};
+ghost use Rattle.areas.specs.Areas.{wordsSize};
 ghost use Rattle.relations.specs.Edge.{Edge};
 ghost use Rattle.relations.specs.Walk.{Ready};
 ghost use Rattle.digraph.specs.Completion.{Walked, at};
@@ -28,7 +29,7 @@ fn least(a: u64, b: u64) -> u64
 
 // Puts x on the stack, with the number of its position.
 fn push(z: &mut [u64], x: usize, depth: usize)
-    requires { ⌜ (8192 ≤ length (now z)) × (x < 2048) × (depth < 2048) ⌝ }
+    requires { ⌜ (wordsSize ≤ length (now z)) × (x < 2048) × (depth < 2048) ⌝ }
     ensures { λ _. ⌜ now (z .exit) ≡ set (set (now (z .entry)) (4096 + depth) x) (2048 + x) (depth + 1) ⌝ }
 {
     z[4096 + depth] = x as u64;
@@ -37,7 +38,7 @@ fn push(z: &mut [u64], x: usize, depth: usize)
 
 // Joins the set of y to that of x, and makes x's low number the lower of both.
 fn join(z: &mut [u64], x: usize, y: usize)
-    requires { ⌜ (8192 ≤ length (now z)) × (x < 2048) × (y < 2048) ⌝ }
+    requires { ⌜ (wordsSize ≤ length (now z)) × (x < 2048) × (y < 2048) ⌝ }
     ensures { λ _. ⌜ now (z .exit) ≡ set (set (now (z .entry)) x (bitOr (at (now (z .entry)) x) (at (now (z .entry)) y))) (2048 + x) (min (numIn (now (z .entry)) x) (numIn (now (z .entry)) y)) ⌝ }
 {
     z[x] = z[x] | z[y];
@@ -46,7 +47,7 @@ fn join(z: &mut [u64], x: usize, y: usize)
 
 // Makes v complete, with the set s.
 fn settle(z: &mut [u64], v: usize, s: u64)
-    requires { ⌜ (8192 ≤ length (now z)) × (v < 2048) ⌝ }
+    requires { ⌜ (wordsSize ≤ length (now z)) × (v < 2048) ⌝ }
     ensures { λ _. ⌜ now (z .exit) ≡ set (set (now (z .entry)) (2048 + v) 65535) v s ⌝ }
 {
     z[2048 + v] = COMPLETE;
@@ -55,7 +56,7 @@ fn settle(z: &mut [u64], v: usize, s: u64)
 
 // Pops the positions from `base` on; each popped node is complete, with the set s.
 fn pop(z: &mut [u64], k: usize, base: usize, depth: usize, s: u64)
-    requires { ⌜ (base ≤ depth) × (depth ≤ k) × (k ≤ 2048) × (8192 ≤ length (now z)) × ((p : ℕ) → p < depth → stkIn (now z) p < k) ⌝ }
+    requires { ⌜ (base ≤ depth) × (depth ≤ k) × (k ≤ 2048) × (wordsSize ≤ length (now z)) × ((p : ℕ) → p < depth → stkIn (now z) p < k) ⌝ }
     ensures { λ _. ⌜ Popped k base depth s (now (z .entry)) (now (z .exit)) ⌝ }
 {
     let mut d = depth;
@@ -68,7 +69,7 @@ fn pop(z: &mut [u64], k: usize, base: usize, depth: usize, s: u64)
 
 // Pops all from x on, which stands at `base`, where nothing from there leads below x: all these nodes are on cycles with x.
 fn finish(z: &mut [u64], k: usize, x: usize, base: usize, depth: usize) -> usize
-    requires { ⌜ (base ≤ depth) × (depth ≤ k) × (k ≤ 2048) × (8192 ≤ length (now z)) × ((p : ℕ) → p < depth → stkIn (now z) p < k) × (x < k) ⌝ }
+    requires { ⌜ (base ≤ depth) × (depth ≤ k) × (k ≤ 2048) × (wordsSize ≤ length (now z)) × ((p : ℕ) → p < depth → stkIn (now z) p < k) × (x < k) ⌝ }
     ensures { λ r. ⌜ Finished k x base depth (now (z .entry)) (now (z .exit)) r ⌝ }
 {
     if wide(z[2048 + x]) == base + 1 {
@@ -125,7 +126,7 @@ fn visit(kind: u32, c: &[u16], w: &[u32], z: &mut [u64], k: usize, y: usize, dep
 
 // Makes the nodes 0 to k - 1 not visited.
 fn clear(z: &mut [u64], k: usize)
-    requires { ⌜ (k ≤ 2048) × (8192 ≤ length (now z)) ⌝ }
+    requires { ⌜ (k ≤ 2048) × (wordsSize ≤ length (now z)) ⌝ }
     ensures { λ _. ⌜ Cleared k (now (z .entry)) (now (z .exit)) ⌝ }
 {
     let mut i: usize = 0;
@@ -137,7 +138,7 @@ fn clear(z: &mut [u64], k: usize)
 
 // Completes the sets of the nodes 0 to k - 1 along the relation `kind`.
 pub fn complete(kind: u32, c: &[u16], w: &[u32], z: &mut [u64], k: usize)
-    requires { ⌜ Ready kind (now c) (now w) k × (k ≤ 2048) × (8192 ≤ length (now z)) ⌝ }
+    requires { ⌜ Ready kind (now c) (now w) k × (k ≤ 2048) × (wordsSize ≤ length (now z)) ⌝ }
     ensures { λ _. ⌜ Walked (Edge kind (now (c .entry)) (now (w .entry)) k) k (now (z .entry)) (now (z .exit)) ⌝ }
 {
     clear(z, k);

@@ -10,6 +10,7 @@ use lib.Dec.{ltb}
 use borrow.Author.Tests.{le-ltb}
 use Rattle.grammar.specs.Card.{formFault}
 use Rattle.grammar.proofs.CardLaws.{fault-most}
+use Rattle.areas.specs.Areas.{tableSize, wordsSize, halvesSize}
 use Rattle.lalr.specs.Generator.{refused, generated, writes, cardAnswer}
 use Rattle.lalr.proofs.Finish.{Room, by-card, short-table, short-words, short-halves}
 use Rattle.generator.specs.declared.Answer.the-variants.{Refused}
@@ -17,13 +18,13 @@ use Rattle.generator.specs.Answer.{GeneratesAs}
 use Rattle.generator.proofs.Laws.{keeps}
 
 module _ (t z w c : List ℕ) where
-  pub first : length t < 32004 → GeneratesAs (generated t z w c) (Refused 1) t z w
+  pub first : length t < tableSize → GeneratesAs (generated t z w c) (Refused 1) t z w
   first h = keeps t z w c (refused 1) (Refused 1) (short-table t z w c h) refl refl
 
-  pub second : 32004 ≤ length t → length z < 8192 → GeneratesAs (generated t z w c) (Refused 2) t z w
+  pub second : tableSize ≤ length t → length z < wordsSize → GeneratesAs (generated t z w c) (Refused 2) t z w
   second h k = keeps t z w c (refused 2) (Refused 2) (short-words t z w c h k) refl refl
 
-  pub third : 32004 ≤ length t → 8192 ≤ length z → length w < 16384 → GeneratesAs (generated t z w c) (Refused 3) t z w
+  pub third : tableSize ≤ length t → wordsSize ≤ length z → length w < halvesSize → GeneratesAs (generated t z w c) (Refused 3) t z w
   third h k l = keeps t z w c (refused 3) (Refused 3) (short-halves t z w c h k l) refl refl
 
   faulty : (n : ℕ) → formFault c ≡ n → n ≢ 0 → cardAnswer c ≡ refused n

@@ -28,6 +28,7 @@ use Rattle.states.specs.States.{transition}
 use Rattle.transitions.specs.Next.{nextOf, Numbered, transitionCount}
 use Rattle.transitions.specs.Data.{Data}
 use Rattle.tables.specs.Conflicts.{Conflict}
+use Rattle.areas.specs.Areas.{tableSize, wordsSize, halvesSize}
 use Rattle.cells.specs.Actions.{IsCell}
 use Rattle.cells.specs.Areas.{Tabled}
 use Rattle.bridge.specs.Premises.{Stated, Followed}
@@ -63,7 +64,7 @@ module _ (t₀ z₀ w₀ c : List ℕ) where
 
   -- the others cover them
   pub covers-all : (a : definition.Answer) (r : Answer) (t z w : List ℕ) → generated t₀ z₀ w₀ c .answer ≡ a → writes a ≡ true → meaning r ≡ a
-      → t ≡ covered 32004 (tableLeft a c) t₀ → z ≡ covered 8192 [] z₀ → w ≡ covered 16384 [] w₀ → GeneratesAs (generated t₀ z₀ w₀ c) r t z w
+      → t ≡ covered tableSize (tableLeft a c) t₀ → z ≡ covered wordsSize [] z₀ → w ≡ covered halvesSize [] w₀ → GeneratesAs (generated t₀ z₀ w₀ c) r t z w
   covers-all a r t z w e n k et ez ew = rw (all-covered t₀ z₀ w₀ c a e n) (record { answer = k; table = et; words = ez; halves = ew })
 
   -- 10: the lowest nonterminal that is not useful

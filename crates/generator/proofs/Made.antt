@@ -7,6 +7,7 @@ use lib.ListN.{length, getD}
 use Rattle.sets.specs.Lists.{covered}
 use Rattle.grammar.specs.Card.{terminals, formFault, grammarOf}
 use Rattle.grammar.specs.Grammar.{Derives}
+use Rattle.areas.specs.Areas.{tableSize, wordsSize, halvesSize}
 use Rattle.lr.proofs.ItemLaws.{all-productive}
 use Rattle.lr.specs.States.{States, MoreStates}
 use Rattle.lalr.specs.Generator.{made, refused, conflict, generated, tableOf}
@@ -44,11 +45,11 @@ module _ (t₀ z₀ w₀ c : List ℕ) (o : Room t₀ z₀ w₀) (f : formFault 
     after : Outcome c t₁ n
     after = outcome c z₀ t₀ z₁ t₁ n f (all-productive (grammarOf c) (λ x n. u .each-nonterminal x n .productive)) (b .stated)
 
-    same-table : (l : List ℕ) → covered 32004 l t₁ ≡ covered 32004 l t₀
-    same-table l = covered-same 32004 l t₀ t₁ lt (λ i h. b .table-kept .kept i h)
+    same-table : (l : List ℕ) → covered tableSize l t₁ ≡ covered tableSize l t₀
+    same-table l = covered-same tableSize l t₀ t₁ lt (λ i h. b .table-kept .kept i h)
 
-    same-words : covered 8192 [] z₁ ≡ covered 8192 [] z₀
-    same-words = covered-same 8192 [] z₀ z₁ lz (λ i h. b .sets-kept .kept i (omega arith))
+    same-words : covered wordsSize [] z₁ ≡ covered wordsSize [] z₀
+    same-words = covered-same wordsSize [] z₀ z₁ lz (λ i h. b .sets-kept .kept i (omega arith))
 
     -- refusal 11
     pub eleven-met : {t z w : List ℕ} → 256 < n → Cleared t₁ z₁ w₁ t z w → GeneratesAs (generated t₀ z₀ w₀ c) (Refused 11) t z w
@@ -56,7 +57,7 @@ module _ (t₀ z₀ w₀ c : List ℕ) (o : Room t₀ z₀ w₀) (f : formFault 
         covers-all t₀ z₀ w₀ c (refused 11) (Refused 11) t z w (eleven t₀ z₀ w₀ c o f u (more c t₁ n after h)) refl refl
         (cl .table ∙ same-table [])
         (cl .words ∙ same-words)
-        (cl .halves ∙ covered-same 16384 [] w₀ w₁ lw (λ i k. b .words-kept .kept i (omega arith)))
+        (cl .halves ∙ covered-same halvesSize [] w₀ w₁ lw (λ i k. b .words-kept .kept i (omega arith)))
 
     module _ (small : n ≤ 256) where
       abbrev next : ℕ → ℕ → ℕ
@@ -66,8 +67,8 @@ module _ (t₀ z₀ w₀ c : List ℕ) (o : Room t₀ z₀ w₀) (f : formFault 
       numbered-states = numbers-states t₀ z₀ w₀ c o f u t₁ n small (found c t₁ n after small)
 
       module _ (w₂ : List ℕ) (k e : ℕ) (l : lists.Built c w₁ w₂ n k e (nextOf c t₁ n)) where
-        same-halves : covered 16384 [] w₂ ≡ covered 16384 [] w₀
-        same-halves = covered-same 16384 [] w₀ w₂ (l .long ∙ lw) (λ i h. l .rest i (omega arith) ∙ b .words-kept .kept i (omega arith))
+        same-halves : covered halvesSize [] w₂ ≡ covered halvesSize [] w₀
+        same-halves = covered-same halvesSize [] w₀ w₂ (l .long ∙ lw) (λ i h. l .rest i (omega arith) ∙ b .words-kept .kept i (omega arith))
 
         -- refusal 12
         pub twelve-met : {t z w : List ℕ} → 2048 < k → Cleared t₁ z₁ w₂ t z w → GeneratesAs (generated t₀ z₀ w₀ c) (Refused 12) t z w
@@ -91,8 +92,8 @@ module _ (t₀ z₀ w₀ c : List ℕ) (o : Room t₀ z₀ w₀) (f : formFault 
                 halves-long = omega (arith, l .long, lw, o .halves);
               }
 
-          words-left : covered 8192 [] z₂ ≡ covered 8192 [] z₀
-          words-left = covered-same 8192 [] z₀ z₂ (co .long ∙ lz) (λ i h. co .beyond i h ∙ b .sets-kept .kept i (omega arith))
+          words-left : covered wordsSize [] z₂ ≡ covered wordsSize [] z₀
+          words-left = covered-same wordsSize [] z₀ z₂ (co .long ∙ lz) (λ i h. co .beyond i h ∙ b .sets-kept .kept i (omega arith))
 
           module _ (null : NonterminalSet (grammarOf c) (λ x. Derives (grammarOf c) (x ∷ []) []) e) {t z w : List ℕ} where
             -- a table
@@ -102,7 +103,7 @@ module _ (t₀ z₀ w₀ c : List ℕ) (o : Room t₀ z₀ w₀) (f : formFault 
                 let st = found c t₁ n after small in
                 covers-all t₀ z₀ w₀ c made Table t z w
                 (table-made t₀ z₀ w₀ c o f u t₁ n small st w₂ z₁ z₂ k e (l .count) narrow (l .holds narrow) (null .tells) co (T .cell) (T .actions) (T .nexts)) refl refl
-                (T .area ∙ same-table _ ∙ ap (λ (x : List ℕ). covered 32004 x t₀) (the-table t₀ z₀ w₀ c o f u t₁ n small st w₂ z₁ z₂ k e (l .count) narrow (l .holds narrow) (null .tells) co (T .cell) (T .actions) (T .nexts)))
+                (T .area ∙ same-table _ ∙ ap (λ (x : List ℕ). covered tableSize x t₀) (the-table t₀ z₀ w₀ c o f u t₁ n small st w₂ z₁ z₂ k e (l .count) narrow (l .holds narrow) (null .tells) co (T .cell) (T .actions) (T .nexts)))
                 (p .words ∙ words-left)
                 (p .halves ∙ same-halves)
 

@@ -4,6 +4,7 @@ ghost use mathlib.Core.List.{List};
 ghost use Prim.Native.Nat.{ℕ, _≤_, _<_};
 ghost use lib.ListN.{length};
 ghost use Rattle.grammar.specs.Card.{formFault, grammarOf};
+ghost use Rattle.areas.specs.Areas.{wordsSize};
 ghost use Rattle.transitions.specs.Next.{nextOf, Numbered};
 ghost use Rattle.transitions.specs.Data.{Data};
 ghost use Rattle.lalr.specs.Generator.{generated};
@@ -26,14 +27,14 @@ fn clear(t: &mut [u16], z: &mut [u64], w: &mut [u32])
     requires { ⌜ Room (now t) (now z) (now w) ⌝ }
     ensures { λ _. ⌜ Cleared (now (t .entry)) (now (z .entry)) (now (w .entry)) (now (t .exit)) (now (z .exit)) (now (w .exit)) ⌝ }
 {
-    cells::clear16(t, 0, 32004);
-    cells::clear64(z, 0, 8192);
-    cells::clear32(w, 0, 16384);
+    cells::clear16(t, 0, areas::TABLE);
+    cells::clear64(z, 0, areas::WORDS);
+    cells::clear32(w, 0, areas::HALVES);
 }
 
 // Direct reads, the walk along reads, then along includes.
 fn walk(c: &[u16], t: &[u16], w: &[u32], z: &mut [u64], n: u32, k: u32)
-    requires { ⌜ Numbered (now c) n (nextOf (now c) (now t) n) × (8192 ≤ length (now z)) × ((e : ℕ) × Data (now c) (now w) n k e (nextOf (now c) (now t) n)) ⌝ }
+    requires { ⌜ Numbered (now c) n (nextOf (now c) (now t) n) × (wordsSize ≤ length (now z)) × ((e : ℕ) × Data (now c) (now w) n k e (nextOf (now c) (now t) n)) ⌝ }
     ensures { λ _. ⌜ Complete (now (c .entry)) (now (w .entry)) n k (nextOf (now (c .entry)) (now (t .entry)) n) (now (z .entry)) (now (z .exit)) ⌝ }
 {
     transition_lists::direct(c, t, w, z, n, k);
@@ -70,13 +71,13 @@ fn make(c: &[u16], t: &mut [u16], z: &mut [u64], w: &mut [u32]) -> Answer
 pub fn generate(card: &[u16], table: &mut [u16], words: &mut [u64], halves: &mut [u32]) -> Answer
     ensures { λ r. ⌜ GeneratesAs (generated (now (table .entry)) (now (words .entry)) (now (halves .entry)) (now (card .entry))) r (now (table .exit)) (now (words .exit)) (now (halves .exit)) ⌝ }
 {
-    if table.len() < 32004 {
+    if table.len() < areas::TABLE {
         return Answer::Refused(1);
     }
-    if words.len() < 8192 {
+    if words.len() < areas::WORDS {
         return Answer::Refused(2);
     }
-    if halves.len() < 16384 {
+    if halves.len() < areas::HALVES {
         return Answer::Refused(3);
     }
     let fault = card::form_fault(card);

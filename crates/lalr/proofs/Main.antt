@@ -16,6 +16,7 @@ use Rattle.grammar.proofs.Derive.{derives-yields}
 use Rattle.grammar.proofs.CardLaws.{WellFormed, well-formed, formed, right-short}
 use Rattle.tables.specs.Layout as layout
 use Rattle.tables.specs.Layout.{cellOf}
+use Rattle.areas.specs.Areas.{tableSize}
 use Rattle.lr.specs.Items
 use Rattle.lr.specs.Items.{walk, First, Lookahead}
 use Rattle.lr.specs.States.{States}
@@ -100,7 +101,7 @@ module _ (c : List ℕ) (m : cardAnswer c ≡ made) where
   only-table l t = one-table (grammarOf c) (the-formed c mk) (the-productive c mk) productions-few (mk .few) card-table t
 
   -- it fits its area
-  pub table-fits : length (tableOf c) ≤ 32004
+  pub table-fits : length (tableOf c) ≤ tableSize
   unfolding layout.sizeOf
   table-fits =
       let l = the-form c mk .limits in

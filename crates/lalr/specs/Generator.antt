@@ -8,6 +8,7 @@ use Rattle.grammar.specs.Grammar.{Grammar}
 use Rattle.grammar.specs.Card.{terminals, nonterminals, productions, leftOf, lengthOf, formFault, grammarOf}
 use Rattle.sets.specs.Lists.{covered}
 use Rattle.tables.specs.Layout.{build}
+use Rattle.areas.specs.Areas.{tableSize, wordsSize, halvesSize}
 use Rattle.lr.specs.States.{nonterminalTransitions}
 use Rattle.lalr.specs.Nonterminals.{uselessNonterminal}
 use Rattle.lalr.specs.Lalr.{states, facts, actions, cell, goes}
@@ -76,13 +77,13 @@ cardAnswer c = elim (formFault c) [ suc n ↦ refused (suc n) | zero ↦ grammar
 -- 1 to 3: "a table area (at least 32,004 numbers of 16 bits) and two work areas (8,192 numbers of 64 bits, 16,384 of 32 bits)", by their lengths
 unfoldable pub answerOf : ℕ → ℕ → ℕ → List ℕ → Answer
 answerOf t u v c =
-    elim (ltb t 32004) [
+    elim (ltb t tableSize) [
       | true ↦ refused 1
       | false ↦
-          elim (ltb u 8192) [
+          elim (ltb u wordsSize) [
             | true ↦ refused 2
             | false ↦
-                elim (ltb v 16384) [ true ↦ refused 3 | false ↦ cardAnswer c ]
+                elim (ltb v halvesSize) [ true ↦ refused 3 | false ↦ cardAnswer c ]
           ]
     ]
 
@@ -124,7 +125,7 @@ generated t z w c =
     let a = answerOf (length t) (length z) (length w) c in
     record {
       answer = a;
-      table = cond (writes a) (covered 32004 (tableLeft a c) t) t;
-      words = cond (writes a) (covered 8192 [] z) z;
-      halves = cond (writes a) (covered 16384 [] w) w;
+      table = cond (writes a) (covered tableSize (tableLeft a c) t) t;
+      words = cond (writes a) (covered wordsSize [] z) z;
+      halves = cond (writes a) (covered halvesSize [] w) w;
     }

@@ -13,8 +13,8 @@ use Rattle.sets.specs.Bit.{bit, Lowest as Lowest-in}
 use Rattle.sets.proofs.HasLaws.{lt-or-ge}
 use Rattle.grammar.specs.Card.{terminals, nonterminals, productions}
 use Rattle.grammar.proofs.CardLaws.{well-formed}
-use Rattle.tables.specs.Layout.{rowOf}
-use Rattle.tables.proofs.RowLaws.{row-next, row-mono, row-most}
+use Rattle.areas.specs.Areas.{tableSize, rowOf}
+use Rattle.areas.proofs.RowLaws.{row-next, row-mono, row-most}
 use Rattle.transitions.specs.Next.{nextOf, Numbered}
 use Rattle.transitions.specs.Data.{Ordered, Holds, Shifts}
 use Rattle.tables.specs.Conflicts.{Single, Lowest, Before, lower-state, lower-symbol}
@@ -42,11 +42,11 @@ row-below c p q x h l = let m = row-mono c p q h in omega arith
 
 module _ (c w : List ℕ) (k : ℕ) (o : Ordered c w k) where
   -- 256 rows fit
-  pub row-fits : (q : ℕ) → q ≤ 256 → rowOf c q ≤ 32004
+  pub row-fits : (q : ℕ) → q ≤ 256 → rowOf c q ≤ tableSize
   row-fits q h = row-most c (well-formed c (o .formed)) q 256 h
 
   -- and the place of any word of a row
-  pub row-room : (q : ℕ) → q < 256 → rowOf c q + 64 ≤ 32004
+  pub row-room : (q : ℕ) → q < 256 → rowOf c q + 64 ≤ tableSize
   row-room q h = let m = row-most c (well-formed c (o .formed)) q 255 (omega arith) in omega arith
 
 -- the table area holds the transitions
@@ -271,7 +271,7 @@ module _ (c t₀ w z : List ℕ) (n k : ℕ) (stage : Stage c t₀ w z n) (o : O
 
   -- ---- the answer
 
-  beyond : (q : ℕ) (t : List ℕ) → q ≤ n → Rows c (Stands c t₀ w z n k) q t₀ t → (i : ℕ) → 32004 ≤ i → getD t i 0 ≡ getD t₀ i 0
+  beyond : (q : ℕ) (t : List ℕ) → q ≤ n → Rows c (Stands c t₀ w z n k) q t₀ t → (i : ℕ) → tableSize ≤ i → getD t i 0 ≡ getD t₀ i 0
   beyond q t h done i l = done .behind i (omega (arith, row-fits c w k o q (omega (arith, stage .numbered .most))))
 
   pub searched-met : (q m : ℕ) (t : List ℕ) (r : Clash) → Rows c (Stands c t₀ w z n k) q t₀ t → Crossed (Stands c t₀ w z n k) n (terminals c) q m → Named (Stands c t₀ w z n k q m) q m r
@@ -290,7 +290,7 @@ module _ (c t₀ w z : List ℕ) (n k : ℕ) (stage : Stage c t₀ w z n) (o : O
       record { answer = subst (λ (x : ℕ). Rows c (Stands c t₀ w z n k) x t₀ t) e done; long = done .long; beyond = beyond q t h done }
 
   -- 256 rows and the header fit
-  pub size-fits : rowOf c n ≤ 32004
+  pub size-fits : rowOf c n ≤ tableSize
   size-fits = row-fits c w k o n (stage .numbered .most)
 
   -- the rows, then the header and the zeros
@@ -299,5 +299,5 @@ module _ (c t₀ w z : List ℕ) (n k : ℕ) (stage : Stage c t₀ w z n) (o : O
       let done : Rows c (Stands c t₀ w z n k) n t₀ t = subst (Answer c (Stands c t₀ w z n k) n t₀ t) e (s .answer) in
       tabled c n (nextOf c t₀ n) (Stands c t₀ w z n k) t₀ t t′ (s .long) (s .beyond) (done .cells) (λ q x h l b. done .others q x h l b ∙ next-cell c t₀ n q x h b) f
 
-  pub outcome-met : (q m v u : ℕ) (t t′ : List ℕ) (r : Clash) → r ≡ At q m v u → Searched c (Stands c t₀ w z n k) n t₀ t r → t′ ≡ covered 32004 [] t → Outcome c (nextOf c t₀ n) (Stands c t₀ w z n k) n t₀ t′ (At q m v u)
-  outcome-met q m v u t t′ r e s f = (subst (Answer c (Stands c t₀ w z n k) n t₀ t) e (s .answer), f ∙ covered-same 32004 [] t₀ t (s .long) (s .beyond))
+  pub outcome-met : (q m v u : ℕ) (t t′ : List ℕ) (r : Clash) → r ≡ At q m v u → Searched c (Stands c t₀ w z n k) n t₀ t r → t′ ≡ covered tableSize [] t → Outcome c (nextOf c t₀ n) (Stands c t₀ w z n k) n t₀ t′ (At q m v u)
+  outcome-met q m v u t t′ r e s f = (subst (Answer c (Stands c t₀ w z n k) n t₀ t) e (s .answer), f ∙ covered-same tableSize [] t₀ t (s .long) (s .beyond))

@@ -5,7 +5,7 @@ ghost use Prim.Native.Nat.{ℕ, _+_, _<_, _≤_};
 ghost use lib.ListN.{length, getD};
 ghost use Rattle.items.specs.Item.{item};
 ghost use Rattle.grammar.specs.Card.{terminals, productions, lengthOf, startOf, formFault};
-ghost use Rattle.tables.specs.Layout.{rowOf};
+ghost use Rattle.areas.specs.Areas.{tableSize, rowOf};
 ghost use Rattle.transitions.specs.Next.{Numbered};
 ghost use Rattle.transitions.specs.Data.{Ordered, Holds};
 ghost use Rattle.cells.specs.Actions.{Act};
@@ -139,7 +139,7 @@ fn acceptance(a: u16, q: u16) -> u64
 
 // The state that the start leads to from state 0.
 fn target(c: &[u16], t: &[u16]) -> u16
-    requires { ⌜ rowOf (now c) 0 ≤ 32004 ⌝ }
+    requires { ⌜ rowOf (now c) 0 ≤ tableSize ⌝ }
     ensures { λ r. ⌜ r ≡ getD (now (t .entry)) (rowOf (now (c .entry)) 0 + terminals (now (c .entry))) 0 ⌝ }
 {
     card::at(t, cells::row(c, 0) + card::wide(card::terminals(c)))
@@ -161,7 +161,7 @@ pub enum Clash {
 
 // The two lowest numbers at state q and terminal m, where two meet.
 fn conflict(c: &[u16], t: &[u16], w: &[u32], z: &[u64], keyed: &[u64; 512], q: u16, m: u16) -> Clash
-    requires { ⌜ ((k : ℕ) × Ordered (now c) (now w) k) × (q < 256) × (2048 ≤ length (now z)) × Keyed (now c) (now keyed) (productions (now c)) × (rowOf (now c) q ≤ 32004) ⌝ }
+    requires { ⌜ ((k : ℕ) × Ordered (now c) (now w) k) × (q < 256) × (2048 ≤ length (now z)) × Keyed (now c) (now keyed) (productions (now c)) × (rowOf (now c) q ≤ tableSize) ⌝ }
     ensures { λ r. ⌜ ((n k : ℕ) (next : ℕ → ℕ → ℕ) → Ordered (now (c .entry)) (now (w .entry)) k → Numbered (now (c .entry)) n next → m < terminals (now (c .entry))
         → getD (now (t .entry)) (rowOf (now (c .entry)) q + m) 0 ≡ next q m → Two (Act (now (c .entry)) next (LooksBack (now (c .entry)) (now (w .entry)) (now (z .entry)) k q) q m)
         → Named (Act (now (c .entry)) next (LooksBack (now (c .entry)) (now (w .entry)) (now (z .entry)) k q) q m) q m r) ⌝ }
@@ -216,15 +216,15 @@ pub fn fill(c: &[u16], t: &mut [u16], w: &mut [u32], z: &mut [u64], n: u16) -> C
 {
     let keyed = keys(c);
     let r = rows(c, t, w, z, &keyed, n);
-    cells::clear64(z, 0, 8192);
-    cells::clear32(w, 0, 16384);
+    cells::clear64(z, 0, areas::WORDS);
+    cells::clear32(w, 0, areas::HALVES);
     match r {
         Clash::Free => {
             cells::finish(c, t, n);
             Clash::Free
         }
         Clash::At(q, m, v, u) => {
-            cells::clear16(t, 0, 32004);
+            cells::clear16(t, 0, areas::TABLE);
             Clash::At(q, m, v, u)
         }
     }

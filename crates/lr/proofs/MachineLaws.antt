@@ -11,7 +11,7 @@ use Rattle.grammar.proofs.Yield.{Yields, nil, terminal, nonterminal, append, fo
 use Rattle.lr.proofs.Runs
 use Rattle.lr.specs.Items
 use Rattle.lr.proofs.Firsts.{first-begins, first-follows}
-use Rattle.machine.specs.LrMachine.{peek}
+use Rattle.sets.specs.Lists.{peek}
 use Rattle.lr.proofs.Runs.{Act, shift, reduce, accept, wrong}
 use Rattle.lr.proofs.ItemLaws.{drop-next, Origin, added, inner, origin, Extends, AllProductive, begins}
 use Rattle.grammar.proofs.Derive.{derives-yields, rightmost-yields, yields-rightmost, rightmost-derives}

@@ -8,7 +8,7 @@ use lib.Seq.{length-take-le, take-suc-set, getD-at, getD-take, take-set-le, take
 use borrow.Author.Tests.{lt-ltb, le-ltb, eq-eqb, ne-eqb}
 use native.Mathlib.Omega.{arith}
 use native.Mathlib.Decide.{decLt, ℕ-discrete}
-use Rattle.machine.specs.LrMachine.{peek, rest}
+use Rattle.sets.specs.Lists.{peek, rest}
 use Rattle.tables.specs.Layout.{cellOf, leftOf, lengthOf}
 use Rattle.machine.specs.Machine.{Machine, Next, ended, moved, accepted, popped, topOf, actionOf, shifted, reducedTo, reduced, movedBy, Outcome, after, run}
 use Rattle.machine.specs.Faithful.{Stops, accepted-here, wrong-here, no-steps, list-full, broken-here, stack-full}

@@ -3,4 +3,3 @@ pub mod Areas
 pub mod Checked
 pub mod ReportLaws
 pub mod Spent
-pub mod Shifts

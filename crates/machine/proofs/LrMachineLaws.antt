@@ -6,7 +6,7 @@ use mathlib.Core.List.{List, [], _∷_}
 use lib.ListN.{drop}
 use native.Mathlib.Omega.{arith}
 use native.Mathlib.Decide.{decLt, ℕ-discrete}
-use Rattle.machine.specs.LrMachine.{peek, rest}
+use Rattle.sets.specs.Lists.{peek, rest}
 use Rattle.tables.specs.Layout.{cellOf, leftOf, lengthOf}
 pub use Rattle.machine.specs.LrMachine.{Config, conf, Step, shift, reduce, Steps, StepsIn, Broken, pops-all, no-next, Ends, accepts, wrong, broken}
 

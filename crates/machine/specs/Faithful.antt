@@ -5,7 +5,8 @@ use mathlib.Core.Logic.{_≢_}
 use mathlib.Core.List.{List, [], _∷_, reverse}
 use lib.ListN.{length, drop, take}
 use Rattle.tables.specs.Layout.{cellOf}
-use Rattle.machine.specs.LrMachine.{peek, conf, Step, Steps, Ends}
+use Rattle.sets.specs.Lists.{peek}
+use Rattle.machine.specs.LrMachine.{conf, Step, Steps, Ends}
 use Rattle.machine.specs.Checks.{Reading}
 use Rattle.machine.specs.Report.{numberOf, stepsOf, depthOf, productionsOf, positionOf}
 

@@ -4,17 +4,8 @@ use mathlib.Core.Path.{_≡_}
 use mathlib.Core.Logic.{_≢_}
 use mathlib.Core.List.{List, [], _∷_, _++_}
 use lib.ListN.{length, drop}
+use Rattle.sets.specs.Lists.{peek, rest}
 use Rattle.tables.specs.Layout.{cellOf, leftOf, lengthOf}
-
--- the next terminal: the end marker 0 after the last
-abbrev pub peek : List ℕ → ℕ
-peek [] = 0
-peek (a ∷ x) = a
-
--- the input after its first terminal
-abbrev pub rest : List ℕ → List ℕ
-rest [] = []
-rest (a ∷ x) = x
 
 -- the states from the top down, the terminals still to be read, the productions listed so far
 pub data Config : Type 0 where

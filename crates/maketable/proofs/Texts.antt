@@ -6,6 +6,7 @@ use Prim.Native.Nat.{ℕ, _≤_}
 use native.Mathlib.Omega.{arith}
 use lib.ListN.{length, take, replicate, length-replicate}
 use lib.Seq.{length-take-le}
+use Rattle.areas.specs.Areas.{tableSize, wordsSize, halvesSize}
 use Rattle.decimal.specs.declared.scanner.Scan.{Scan}
 use Rattle.decimal.specs.declared.scanner.Found.{Found}
 use Rattle.decimal.specs.declared.scanner.Found.the-variants.{Numbers, NotACard}
@@ -31,9 +32,9 @@ zeros-length : length (zeros 772) ≡ 772
 zeros-length = length-replicate {A = ℕ} 772 0
 
 -- a reply from areas of zeros
-pub reply-text : (c before out : List ℕ) (n : ℕ) {t z w : List ℕ} → RepliesAs (generated (zeros 32004) (zeros 8192) (zeros 16384) c) before out n t z w
+pub reply-text : (c before out : List ℕ) (n : ℕ) {t z w : List ℕ} → RepliesAs (generated (zeros tableSize) (zeros wordsSize) (zeros halvesSize) c) before out n t z w
     → 195114 ≤ length before → take n out ≡ cardText c
-reply-text c before out n r h = reply-whole (zeros 32004) (zeros 8192) (zeros 16384) c before out n r (zeros-long 32004) (zeros-long 8192) (zeros-long 16384) h
+reply-text c before out n r h = reply-whole (zeros tableSize) (zeros wordsSize) (zeros halvesSize) c before out n r (zeros-long tableSize) (zeros-long wordsSize) (zeros-long halvesSize) h
 
 pub other-text : (before out : List ℕ) (n : ℕ) → pageOf out n ≡ page before notACard → 195114 ≤ length before → take n out ≡ notACard
 other-text before out n e h = page-text before notACard out n e (omega arith)

@@ -17,9 +17,9 @@ fn reply(card: &[u16], out: &mut [u8]) -> usize
     ensures { λ r. ⌜ (195114 ≤ length (now (out .entry)) → take r (now (out .exit)) ≡ cardText (now (card .entry))) ⌝ }
     ensures { λ r. ⌜ Used r (now (out .exit)) ⌝ }
 {
-    let mut table = [0u16; 32004];
-    let mut words = [0u64; 8192];
-    let mut halves = [0u32; 16384];
+    let mut table = [0u16; areas::TABLE];
+    let mut words = [0u64; areas::WORDS];
+    let mut halves = [0u32; areas::HALVES];
     response::reply(card, &mut table, &mut words, &mut halves, out)
 }
 

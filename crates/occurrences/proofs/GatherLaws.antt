@@ -14,6 +14,7 @@ use Rattle.sets.specs.Bit.{bit}
 use Rattle.sets.proofs.HasLaws.{lt-or-ge}
 use Rattle.grammar.specs.Card.{terminals, nonterminals, productions, lengthOf, startOf, formFault}
 use Rattle.grammar.proofs.CardLaws.{well-formed}
+use Rattle.areas.specs.Areas.{halvesSize}
 use Rattle.transitions.specs.Area.{lastOf, productionOf, dotOf, linkOf, pairOf}
 use Rattle.transitions.specs.Occurrences.{symbolAt, Nullable, Occurs, occurringOf, Latest}
 use Rattle.occurrences.specs.Stores.{Occurred}
@@ -196,7 +197,7 @@ module _ (c w : List ℕ) (r s i : ℕ) (ei : i ≡ r) (hr : r < 128) where
   pub store-high : (j : ℕ) → 10431 ≤ j → getD (set w (8705 + i) s) j 0 ≡ getD w j 0
   store-high j h = getD-set-other w (8705 + i) j s 0 (λ z. omega arith)
 
-  pub started-more : (w₂ : List ℕ) → s ≡ startOf c r → 16384 ≤ length w → Between (set w (8705 + i) s) w₂ → Started c w r → Started c w₂ (r + 1)
+  pub started-more : (w₂ : List ℕ) → s ≡ startOf c r → halvesSize ≤ length w → Between (set w (8705 + i) s) w₂ → Started c w r → Started c w₂ (r + 1)
   started-more w₂ es l B T = record {
     starts = λ u h.
         ⊎-elim
@@ -213,7 +214,7 @@ gather-end c e w r p m ep h g G = let z : r ≡ productions c = omega arith in r
 
 -- ---- all of it
 
-pub prepared : (c : List ℕ) (e : ℕ) (w₀ w : List ℕ) (m a b : ℕ) → formFault c ≡ 0 → 16384 ≤ length w → length w ≡ length w₀ → ((i : ℕ) → 10434 ≤ i → getD w i 0 ≡ getD w₀ i 0) → m ≤ 512
+pub prepared : (c : List ℕ) (e : ℕ) (w₀ w : List ℕ) (m a b : ℕ) → formFault c ≡ 0 → halvesSize ≤ length w → length w ≡ length w₀ → ((i : ℕ) → 10434 ≤ i → getD w i 0 ≡ getD w₀ i 0) → m ≤ 512
     → Gathered c e w (productions c) (lengthOf c (productions c)) m → Started c w (productions c) → a ≡ e % 2 ^ 32 → b ≡ e / 2 ^ 32 → Prepared c e w₀ (set (set (set w 10431 a) 10432 b) 10433 m)
 unfolding pairOf
 prepared c e w₀ w m a b ff l lw rest few G T ea eb = record {

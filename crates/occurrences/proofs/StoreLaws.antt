@@ -7,6 +7,7 @@ use native.Mathlib.Omega.{arith}
 use native.Mathlib.Decide.{ℕ-discrete}
 use lib.ListN.{length, getD, set, length-set}
 use lib.Seq.{getD-set-same, getD-set-other}
+use Rattle.areas.specs.Areas.{halvesSize}
 use Rattle.occurrences.specs.Stores.{Cleared, Occurred}
 
 pub eq-or : (a b : ℕ) → (a ≡ b) ⊎ (a ≡ b → ⊥)
@@ -31,7 +32,7 @@ cleared-end w w′ b i e c h g = let z : i ≡ e = omega arith in rw z at c
 
 -- ---- an occurrence put down
 
-module _ (w : List ℕ) (m r d j : ℕ) (h : m < 512) (hj : j < 60) (l : 16384 ≤ length w) where
+module _ (w : List ℕ) (m r d j : ℕ) (h : m < 512) (hj : j < 60) (l : halvesSize ≤ length w) where
   abbrev o1 : List ℕ
   o1 = set w (8895 + m) r
 
@@ -78,6 +79,6 @@ module _ (w : List ℕ) (m r d j : ℕ) (h : m < 512) (hj : j < 60) (l : 16384 �
   occurred = occurred-at (getD o2 (8834 + j) 0) refl
 
 -- the same, by the numbers that the code computes
-pub occurred-of : (w : List ℕ) (m r d j o u : ℕ) → m < 512 → j < 60 → 16384 ≤ length w → o ≡ m → u ≡ j
+pub occurred-of : (w : List ℕ) (m r d j o u : ℕ) → m < 512 → j < 60 → halvesSize ≤ length w → o ≡ m → u ≡ j
     → Occurred w m r d j (set (set (set (set w (8895 + o) r) (9407 + o) d) (9919 + o) (getD (set (set w (8895 + o) r) (9407 + o) d) (8834 + u) 0)) (8834 + u) (m + 1))
 occurred-of w m r d j o u h hj l eo eu = rw (eo, eu) (occurred w m r d j h hj l)

@@ -6,6 +6,7 @@ use native.Mathlib.Omega.{arith}
 use borrow.Author.Tests.{le-ltb, ne-eqb}
 use lib.ListN.{length, getD}
 use Rattle.tables.specs.Layout.{width}
+use Rattle.areas.specs.Areas.{tableSize, wordsSize, halvesSize}
 use Rattle.lalr.specs.Generator.{Answer, made, numbersOf, cardAnswer, answerOf, tableOf, generated}
 use Rattle.lalr.proofs.AreaLaws.{made-area}
 use Rattle.lalr.proofs.Main.{card-table, table-words}
@@ -30,16 +31,16 @@ module _ (c : List ℕ) (m : cardAnswer c ≡ made) where
       let l = the-form c (made-of c m) .limits in
       table-room (tableOf c) (λ i. (let b = table-words c m i in omega arith)) (omega (arith, z .0, made-of c m .few)) (omega (arith, z .1, z .2, l .terminals-to, l .nonterminals-to)) (omega (arith, z .3, l .productions-to))
 
-long-areas : (t z w c : List ℕ) → 32004 ≤ length t → 8192 ≤ length z → 16384 ≤ length w → answerOf (length t) (length z) (length w) c ≡ cardAnswer c
+long-areas : (t z w c : List ℕ) → tableSize ≤ length t → wordsSize ≤ length z → halvesSize ≤ length w → answerOf (length t) (length z) (length w) c ≡ cardAnswer c
 unfolding answerOf
-long-areas t z w c h i j = rw (le-ltb (length t) 32004 h, answerOf, le-ltb (length z) 8192 i, le-ltb (length w) 16384 j) refl
+long-areas t z w c h i j = rw (le-ltb (length t) tableSize h, answerOf, le-ltb (length z) wordsSize i, le-ltb (length w) halvesSize j) refl
 
-answer-long : (t z w c : List ℕ) → 32004 ≤ length t → 8192 ≤ length z → 16384 ≤ length w → generated t z w c .answer ≡ cardAnswer c
+answer-long : (t z w c : List ℕ) → tableSize ≤ length t → wordsSize ≤ length z → halvesSize ≤ length w → generated t z w c .answer ≡ cardAnswer c
 unfolding generated
 answer-long t z w c h i j = long-areas t z w c h i j
 
 -- what the maker leaves in areas that are long enough prints the card's text
-pub card-text : (t z w c : List ℕ) → 32004 ≤ length t → 8192 ≤ length z → 16384 ≤ length w
+pub card-text : (t z w c : List ℕ) → tableSize ≤ length t → wordsSize ≤ length z → halvesSize ≤ length w
     → responseText (numbersOf (generated t z w c .answer)) (generated t z w c .table) ≡ cardText c
 unfolding cardText responseText
 card-text t z w c h i j = ap (λ (a : Answer). responseText (numbersOf a) (generated t z w c .table)) (answer-long t z w c h i j) ∙ go refl (answer-printed c)

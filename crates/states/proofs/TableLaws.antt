@@ -19,8 +19,8 @@ use Rattle.items.specs.Item.{Put, Empty}
 use Rattle.sets.proofs.HasLaws.{lt-or-ge}
 use Rattle.sets.proofs.ListLaws.{each-same}
 use Rattle.states.proofs.RowLaws.{cell-kept}
-use Rattle.tables.specs.Layout.{rowOf}
-use Rattle.tables.proofs.RowLaws.{row-next, row-mono, row-fits}
+use Rattle.areas.specs.Areas.{tableSize, rowOf}
+use Rattle.areas.proofs.RowLaws.{row-next, row-mono, row-fits}
 use Rattle.states.specs.States.{transition, Row, Crowd, Rowed, whole, stopped, Table, Stated, finished, beyond, Built}
 use Rattle.lr.specs.States.{Taken, rowOf as cellsOf}
 
@@ -147,10 +147,10 @@ sets-kept : (c z₀ t₀ z t : List ℕ) (r : ℕ) → Stated c z₀ t₀ z t r 
 sets-kept c z₀ t₀ z t _ (finished n T) = T .behind
 sets-kept c z₀ t₀ z t _ (beyond z₁ n t₁ q T h x) = kept-then (T .behind) (x .row .behind) (le-refl 4840)
 
-table-kept : (c z₀ t₀ z t : List ℕ) (r : ℕ) → WellFormed c → Stated c z₀ t₀ z t r → Kept t₀ 32004 t
-table-kept c z₀ t₀ z t _ f (finished n T) = kept-then (kept-same t₀ 32004) (T .high) (end n (T .some) (T .most))
+table-kept : (c z₀ t₀ z t : List ℕ) (r : ℕ) → WellFormed c → Stated c z₀ t₀ z t r → Kept t₀ tableSize t
+table-kept c z₀ t₀ z t _ f (finished n T) = kept-then (kept-same t₀ tableSize) (T .high) (end n (T .some) (T .most))
   where
-    end : (n : ℕ) → 0 < n → n ≤ 256 → rowOf c n ≤ 32004
+    end : (n : ℕ) → 0 < n → n ≤ 256 → rowOf c n ≤ tableSize
     end zero p h = absurd (not-suc-le-zero p)
     end (suc n) p h = let l = row-fits c f n h in rw (← add-one n, row-next c n) l
 table-kept c z₀ t₀ z t _ f (beyond z₁ n t₁ q T h x) =

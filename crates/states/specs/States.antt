@@ -10,7 +10,7 @@ use Rattle.closures.specs.Areas.{slot, Kept, Prepared}
 use Rattle.closures.specs.Sets.{Stays, Goes, Start, Alike}
 use Rattle.grammar.specs.Card.{terminals, nonterminals, grammarOf}
 use Rattle.sets.specs.Lists.{each}
-use Rattle.tables.specs.Layout.{rowOf}
+use Rattle.areas.specs.Areas.{tableSize, rowOf}
 use Rattle.lr.specs.States.{Given, Taken, rowOf as cellsOf}
 
 -- the transition of state q on symbol x in the table t, 0 for none
@@ -82,6 +82,6 @@ pub data Stated (c z₀ t₀ z t : List ℕ) : ℕ → Type 0 where
 -- what `states` leaves: the states, and every place behind those that it uses as it was
 pub record Built (c t₀ z₀ w₀ t z w : List ℕ) (r : ℕ) : Type 0 where
   pub stated : Stated c z₀ t₀ z t r
-  pub table-kept : Kept t₀ 32004 t
+  pub table-kept : Kept t₀ tableSize t
   pub sets-kept : Kept z₀ 4840 z
   pub words-kept : Kept w₀ 704 w

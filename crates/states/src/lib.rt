@@ -6,6 +6,7 @@ ghost use Prim.Native.Nat.{ℕ, _+_, _*_, _≤_, _<_, _^_};
 ghost use lib.Dec.{eqb};
 ghost use lib.ListN.{length, getD};
 ghost use Rattle.grammar.specs.Card.{terminals, nonterminals, formFault};
+ghost use Rattle.areas.specs.Areas.{tableSize, wordsSize};
 ghost use Rattle.closures.specs.Numbers.{afterOf};
 ghost use Rattle.closures.specs.Sets.{Start};
 ghost use Rattle.closures.specs.Areas.{slot, Filled, Prepared};
@@ -62,7 +63,7 @@ fn find(z: &[u64], n: usize, s: [u64; 11], k: usize) -> usize
 
 // The number of the state s among n: found, or the next one, and then s is put down; 256 where there is no room for it.
 fn place(z: &mut [u64], n: usize, s: [u64; 11], k: usize) -> usize
-    requires { ⌜ (n ≤ 256) × (k < 11) × (8192 ≤ length (now z)) ⌝ }
+    requires { ⌜ (n ≤ 256) × (k < 11) × (wordsSize ≤ length (now z)) ⌝ }
     ensures { λ v. ⌜ Placed (now (z .entry)) n s (now (z .exit)) v ⌝ }
 {
     let q = find(z, n, s, k);
@@ -102,7 +103,7 @@ fn least(m: usize, n: usize) -> usize
 
 // Zeros in the cells of a row from symbol x on, up to the first symbol that is in a or to the end: which it is, is the answer.
 fn skip(t: &mut [u16], at: usize, x: usize, end: usize, a: [u64; 11]) -> usize
-    requires { ⌜ (x ≤ end) × (end ≤ 704) × (at + end ≤ 32004) × (32004 ≤ length (now t)) ⌝ }
+    requires { ⌜ (x ≤ end) × (end ≤ 704) × (at + end ≤ tableSize) × (tableSize ≤ length (now t)) ⌝ }
     ensures { λ v. ⌜ Skipped (now (t .entry)) at x end a (now (t .exit)) v ⌝ }
 {
     let y = least(items::next(a, x), end);
@@ -125,7 +126,7 @@ fn row(
     s: [u64; 11],
     m: usize,
 ) -> usize
-    requires { ⌜ (formFault (now c) ≡ 0) × (704 ≤ length (now w)) × Filled (now c) (now w) 704 × Prepared (now c) (now z) × (0 < m) × (m ≤ 256) × Apart (now z) m × (at + (terminals (now c) + nonterminals (now c)) ≤ 32004) × (32004 ≤ length (now t)) × (getD (now t) at 0 ≡ 0) ⌝ }
+    requires { ⌜ (formFault (now c) ≡ 0) × (704 ≤ length (now w)) × Filled (now c) (now w) 704 × Prepared (now c) (now z) × (0 < m) × (m ≤ 256) × Apart (now z) m × (at + (terminals (now c) + nonterminals (now c)) ≤ tableSize) × (tableSize ≤ length (now t)) × (getD (now t) at 0 ≡ 0) ⌝ }
     ensures { λ v. ⌜ Rowed (now (c .entry)) s (now (z .entry)) m (now (t .entry)) at (now (z .exit)) (now (t .exit)) v ⌝ }
 {
     let end = card::wide(card::terminals(c)) + card::wide(card::nonterminals(c));
@@ -150,7 +151,7 @@ fn row(
 
 // The rows of all states in number order, from the first, which stands in its slot.
 fn rows(c: &[u16], t: &mut [u16], z: &mut [u64], w: &[u32]) -> usize
-    requires { ⌜ (formFault (now c) ≡ 0) × (704 ≤ length (now w)) × Filled (now c) (now w) 704 × Prepared (now c) (now z) × (32004 ≤ length (now t)) × Start (now c) (slot (now z) 0) ⌝ }
+    requires { ⌜ (formFault (now c) ≡ 0) × (704 ≤ length (now w)) × Filled (now c) (now w) 704 × Prepared (now c) (now z) × (tableSize ≤ length (now t)) × Start (now c) (slot (now z) 0) ⌝ }
     ensures { λ v. ⌜ Stated (now (c .entry)) (now (z .entry)) (now (t .entry)) (now (z .exit)) (now (t .exit)) v ⌝ }
 {
     let width = card::wide(card::terminals(c)) + card::wide(card::nonterminals(c));
@@ -172,7 +173,7 @@ fn rows(c: &[u16], t: &mut [u16], z: &mut [u64], w: &[u32]) -> usize
 
 // The states of a card: their number, their item sets in z and their transitions in the rows of t; 257 where they are more than 256.
 pub fn states(c: &[u16], t: &mut [u16], z: &mut [u64], w: &mut [u32]) -> usize
-    requires { ⌜ (formFault (now c) ≡ 0) × (32004 ≤ length (now t)) × (8192 ≤ length (now z)) × (704 ≤ length (now w)) ⌝ }
+    requires { ⌜ (formFault (now c) ≡ 0) × (tableSize ≤ length (now t)) × (wordsSize ≤ length (now z)) × (704 ≤ length (now w)) ⌝ }
     ensures { λ v. ⌜ Built (now (c .entry)) (now (t .entry)) (now (z .entry)) (now (w .entry)) (now (t .exit)) (now (z .exit)) (now (w .exit)) v ⌝ }
 {
     closures::fill(c, w);

@@ -4,7 +4,6 @@ use Prim.Native.Nat.{ℕ, _+_, _*_}
 use mathlib.Core.List.{List, [], _∷_, _++_}
 use lib.ListN.{getD}
 use Rattle.sets.specs.Lists.{each}
-use Rattle.grammar.specs.Card as card
 
 -- the sizes: Q states, T terminals (the paper's marks), N nonterminals (names), P productions (rules)
 unfoldable pub states : List ℕ → ℕ
@@ -42,10 +41,6 @@ cellOf t q x = getD t (rowAt (productions t) (width t) q + x) 0
 -- how many numbers the sizes ask for
 unfoldable pub sizeOf : List ℕ → ℕ
 sizeOf t = rowAt (productions t) (width t) (states t)
-
--- where the row of state q begins in the table of the card c
-unfoldable pub rowOf : List ℕ → ℕ → ℕ
-rowOf c q = rowAt (card.productions c) (card.terminals c + card.nonterminals c) q
 
 -- the table with these sizes, left sides, lengths and cells
 unfoldable pub build : ℕ → ℕ → ℕ → ℕ → (ℕ → ℕ) → (ℕ → ℕ) → (ℕ → ℕ → ℕ) → List ℕ

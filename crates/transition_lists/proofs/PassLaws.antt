@@ -18,7 +18,7 @@ use Rattle.sets.proofs.HasLaws.{lt-or-ge, or-cases, or-left, or-right}
 use Rattle.sets.proofs.TestLaws.{and-both, and-true}
 use Rattle.grammar.specs.Card.{terminals, nonterminals}
 use Rattle.transitions.specs.Area.{leavesOf, nonterminalOf, entersOf, firstOf, enteringOf, precedes}
-use Rattle.tables.specs.Layout.{rowOf}
+use Rattle.areas.specs.Areas.{halvesSize, rowOf}
 use Rattle.transitions.specs.Next.{nextOf, Numbered, moves, transitionCount}
 use Rattle.occurrences.specs.Stores.{Cleared}
 use Rattle.occurrences.proofs.StoreLaws.{eq-or}
@@ -282,7 +282,7 @@ module _ (c : List ℕ) (n : ℕ) (next : ℕ → ℕ → ℕ) (N : Numbered c n
 
 -- the place of a first transition is stored
 module _ (c : List ℕ) (n : ℕ) (next : ℕ → ℕ → ℕ) (N : Numbered c n next) (w₀ w : List ℕ) (q x k f : ℕ) (C : Come c next w₀ w q x k f) where
-  pub store-first : f < 257 → 16384 ≤ length w → (k ≤ 2048 → (i : ℕ) → i < k → leavesOf w i < f) → Come c next w₀ (set w (6144 + f) k) q x k (f + 1)
+  pub store-first : f < 257 → halvesSize ≤ length w → (k ≤ 2048 → (i : ℕ) → i < k → leavesOf w i < f) → Come c next w₀ (set w (6144 + f) k) q x k (f + 1)
   store-first hf l b = record {
     passed = record {
       count = C .passed .count;
@@ -417,11 +417,11 @@ pub come-here : (c : List ℕ) (next : ℕ → ℕ → ℕ) (w : List ℕ) (q x 
 come-here c next w q x k f P = record { passed = P; rest = record { long = refl; high = λ i h. refl } }
 
 -- the first transition of the next state
-pub store-row : (c : List ℕ) (n : ℕ) (next : ℕ → ℕ → ℕ) → Numbered c n next → 1 ≤ terminals c → (w₀ w : List ℕ) (q k s : ℕ) → s ≡ q → q ≤ 256 → 16384 ≤ length w → Come c next w₀ w q 1 k q → Come c next w₀ (set w (6144 + s) k) q 1 k (q + 1)
+pub store-row : (c : List ℕ) (n : ℕ) (next : ℕ → ℕ → ℕ) → Numbered c n next → 1 ≤ terminals c → (w₀ w : List ℕ) (q k s : ℕ) → s ≡ q → q ≤ 256 → halvesSize ≤ length w → Come c next w₀ w q 1 k q → Come c next w₀ (set w (6144 + s) k) q 1 k (q + 1)
 store-row c n next N t w₀ w q k s es h l C = rw es (store-first c n next N w₀ w q 1 k q C (omega arith) l (λ few i g. lower c n next t w q k (C .passed .listing few) i g))
 
 -- and of a state that there is not
-pub store-none : (c : List ℕ) (n : ℕ) (next : ℕ → ℕ → ℕ) → Numbered c n next → 1 ≤ terminals c → (w₀ w : List ℕ) (k u s : ℕ) → s ≡ u → n ≤ u → u < 257 → 16384 ≤ length w → Come c next w₀ w n 1 k u → Come c next w₀ (set w (6144 + s) k) n 1 k (u + 1)
+pub store-none : (c : List ℕ) (n : ℕ) (next : ℕ → ℕ → ℕ) → Numbered c n next → 1 ≤ terminals c → (w₀ w : List ℕ) (k u s : ℕ) → s ≡ u → n ≤ u → u < 257 → halvesSize ≤ length w → Come c next w₀ w n 1 k u → Come c next w₀ (set w (6144 + s) k) n 1 k (u + 1)
 store-none c n next N t w₀ w k u s es h g l C =
     rw es (store-first c n next N w₀ w n 1 k u C g l (λ few i m. let a = lower c n next t w n k (C .passed .listing few) i m in omega arith))
 

@@ -13,13 +13,14 @@ use borrow.Author.Tests.{eq-eqb, ne-eqb}
 use Rattle.sets.specs.Bit.{bit}
 use Rattle.sets.proofs.BitLaws.{bit-or, bit-pow}
 use Rattle.sets.proofs.HasLaws.{or-false}
+use Rattle.areas.specs.Areas.{halvesSize}
 use Rattle.transitions.specs.Area.{precedes}
 use Rattle.occurrences.proofs.StoreLaws.{eq-or}
 use Rattle.transition_lists.specs.Stores.{Noted, Placed}
 
 -- ---- a transition put down
 
-module _ (w : List ℕ) (k q x v : ℕ) (h : k < 2048) (l : 16384 ≤ length w) where
+module _ (w : List ℕ) (k q x v : ℕ) (h : k < 2048) (l : halvesSize ≤ length w) where
   abbrev w1 : List ℕ
   w1 = set w k q
 
@@ -51,7 +52,7 @@ module _ (w : List ℕ) (k q x v : ℕ) (h : k < 2048) (l : 16384 ≤ length w) 
 
 -- ---- a transition noted
 
-module _ (w : List ℕ) (q x v : ℕ) (hq : q < 256) (hv : v < 256) (l : 16384 ≤ length w) where
+module _ (w : List ℕ) (q x v : ℕ) (hq : q < 256) (hv : v < 256) (l : halvesSize ≤ length w) where
   noted-word : (w₁ : List ℕ) (i : ℕ) → length w₁ ≡ length w → i ≡ 6657 + 8 * v + q / 32 → (u p : ℕ) → u < 256 → p < 256
       → precedes (set w₁ i (bitOr (getD w₁ i 0) (2 ^ (q % 32)))) u p ≡ (precedes w₁ u p || (eqb v u && eqb q p))
   unfolding precedes
@@ -105,9 +106,9 @@ module _ (w : List ℕ) (q x v : ℕ) (hq : q < 256) (hv : v < 256) (l : 16384 �
 
 -- ---- the same, by the numbers that the code computes
 
-pub noted-of : (w : List ℕ) (q x v s u g : ℕ) → q < 256 → v < 256 → 16384 ≤ length w → s ≡ v → u ≡ q / 32 → g ≡ 2 ^ (q % 32)
+pub noted-of : (w : List ℕ) (q x v s u g : ℕ) → q < 256 → v < 256 → halvesSize ≤ length w → s ≡ v → u ≡ q / 32 → g ≡ 2 ^ (q % 32)
     → Noted w q x v (set (set w (6401 + s) x) (6657 + 8 * s + u) (bitOr (getD (set w (6401 + s) x) (6657 + 8 * s + u) 0) g))
 noted-of w q x v s u g hq hv l es eu eg = rw (es, eu, eg) (noted w q x v hq hv l (6657 + 8 * v + q / 32) refl)
 
-pub placed-of : (w : List ℕ) (k q x v i : ℕ) → k < 2048 → 16384 ≤ length w → i ≡ k → Placed w k q x v (set (set (set w i q) (2048 + i) x) (4096 + i) v)
+pub placed-of : (w : List ℕ) (k q x v i : ℕ) → k < 2048 → halvesSize ≤ length w → i ≡ k → Placed w k q x v (set (set (set w i q) (2048 + i) x) (4096 + i) v)
 placed-of w k q x v i h l e = rw e (placed w k q x v h l)

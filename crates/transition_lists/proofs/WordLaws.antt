@@ -12,6 +12,7 @@ use lib.Bits.{bitOr}
 use Rattle.sets.specs.Bit.{bit}
 use Rattle.sets.proofs.HasLaws.{has-none, has-one, one-has, has-or, or-has-l, or-has-r}
 use Rattle.grammar.specs.Card.{terminals}
+use Rattle.areas.specs.Areas.{wordsSize}
 use Rattle.transitions.specs.Area.{leavesOf, nonterminalOf, entersOf}
 use Rattle.transitions.specs.Next.{Numbered}
 use Rattle.transitions.specs.Data.{Data, Holds, Shifts, Ends, Direct, Begun}
@@ -77,7 +78,7 @@ module _ (c w : List ℕ) (next : ℕ → ℕ → ℕ) (z₀ : List ℕ) where
     rest = λ j h. refl;
   }
 
-  pub copied-word : (z : List ℕ) (q s v : ℕ) → s ≡ q → q < 256 → 8192 ≤ length z → Holds v (Shifts c next q) → Copied c w next z₀ z q 0 → Copied c w next z₀ (set z (6144 + s) v) (q + 1) 0
+  pub copied-word : (z : List ℕ) (q s v : ℕ) → s ≡ q → q < 256 → wordsSize ≤ length z → Holds v (Shifts c next q) → Copied c w next z₀ z q 0 → Copied c w next z₀ (set z (6144 + s) v) (q + 1) 0
   copied-word z q s v es h l H C = rw es (record {
     direct = λ j g. absurd (let z : ⊥ = omega arith in z);
     shifts = λ p g.
@@ -93,7 +94,7 @@ module _ (c w : List ℕ) (next : ℕ → ℕ → ℕ) (z₀ : List ℕ) where
   pub copied-all : (z : List ℕ) (q n i : ℕ) → q ≤ n → n ≤ q → Copied c w next z₀ z q i → Copied c w next z₀ z n i
   copied-all z q n i h g C = let e : q ≡ n = omega arith in rw e at C
 
-  pub copied-direct : (z : List ℕ) (n i o j s : ℕ) → o ≡ i → j ≡ entersOf w i → entersOf w i < n → i < 2048 → 8192 ≤ length z → Holds s (Ending c w i) → Copied c w next z₀ z n i
+  pub copied-direct : (z : List ℕ) (n i o j s : ℕ) → o ≡ i → j ≡ entersOf w i → entersOf w i < n → i < 2048 → wordsSize ≤ length z → Holds s (Ending c w i) → Copied c w next z₀ z n i
       → Copied c w next z₀ (set z o (bitOr (getD z (6144 + j) 0) s)) n (i + 1)
   copied-direct z n i o j s eo ej hn hi l H C =
       let v = bitOr (getD z (6144 + j) 0) s in

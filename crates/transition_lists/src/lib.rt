@@ -4,7 +4,7 @@ ghost use mathlib.Core.List.{List};
 ghost use Prim.Native.Nat.{ℕ, _+_, _<_, _≤_};
 ghost use lib.ListN.{length};
 ghost use Rattle.grammar.specs.Card.{terminals, nonterminals, formFault};
-ghost use Rattle.tables.specs.Layout.{rowOf};
+ghost use Rattle.areas.specs.Areas.{wordsSize, halvesSize, rowOf};
 ghost use Rattle.transitions.specs.Next.{nextOf, Numbered};
 ghost use Rattle.transitions.specs.Data.{Data, Built, Holds, Shifts, Begun};
 ghost use Rattle.transition_lists.specs.Stores.{Noted, Placed, Celled};
@@ -22,7 +22,7 @@ fn row_at(c: &[u16], q: u32) -> usize
 
 // Notes at state v a transition by x from state q.
 fn note(w: &mut [u32], q: u32, x: u32, v: u32)
-    requires { ⌜ (q < 256) × (v < 256) × (16384 ≤ length (now w)) ⌝ }
+    requires { ⌜ (q < 256) × (v < 256) × (halvesSize ≤ length (now w)) ⌝ }
     ensures { λ _. ⌜ Noted (now (w .entry)) q x v (now (w .exit)) ⌝ }
 {
     let s = card::wide32(v);
@@ -33,7 +33,7 @@ fn note(w: &mut [u32], q: u32, x: u32, v: u32)
 
 // Puts a transition by x from state q to state v down as number k.
 fn place(w: &mut [u32], k: u32, q: u32, x: u32, v: u32)
-    requires { ⌜ (k < 2048) × (16384 ≤ length (now w)) ⌝ }
+    requires { ⌜ (k < 2048) × (halvesSize ≤ length (now w)) ⌝ }
     ensures { λ _. ⌜ Placed (now (w .entry)) k q x v (now (w .exit)) ⌝ }
 {
     let i = card::wide32(k);
@@ -44,7 +44,7 @@ fn place(w: &mut [u32], k: u32, q: u32, x: u32, v: u32)
 
 // The cell v of state q and the symbol x, with t terminals, after k nonterminal transitions; the answer is how many there are now.
 fn cell(w: &mut [u32], t: u32, k: u32, q: u32, x: u32, v: u32) -> u32
-    requires { ⌜ (q < 256) × (v < 256) × (k < 65536) × (16384 ≤ length (now w)) ⌝ }
+    requires { ⌜ (q < 256) × (v < 256) × (k < 65536) × (halvesSize ≤ length (now w)) ⌝ }
     ensures { λ r. ⌜ Celled t (now (w .entry)) k q x v (now (w .exit)) r ⌝ }
 {
     if v == 0 {
@@ -63,7 +63,7 @@ fn cell(w: &mut [u32], t: u32, k: u32, q: u32, x: u32, v: u32) -> u32
 
 // The row of state q.
 fn row(c: &[u16], t: &[u16], w: &mut [u32], n: u32, q: u32, k: u32) -> u32
-    requires { ⌜ (formFault (now c) ≡ 0) × Numbered (now c) n (nextOf (now c) (now t) n) × (q < n) × (16384 ≤ length (now w)) × Passed (now c) (nextOf (now c) (now t) n) (now w) q 1 k (q + 1) ⌝ }
+    requires { ⌜ (formFault (now c) ≡ 0) × Numbered (now c) n (nextOf (now c) (now t) n) × (q < n) × (halvesSize ≤ length (now w)) × Passed (now c) (nextOf (now c) (now t) n) (now w) q 1 k (q + 1) ⌝ }
     ensures { λ r. ⌜ Come (now (c .entry)) (nextOf (now (c .entry)) (now (t .entry)) n) (now (w .entry)) (now (w .exit)) q (terminals (now (c .entry)) + nonterminals (now (c .entry))) r (q + 1) ⌝ }
 {
     let m = card::wider(card::terminals(c));
@@ -87,7 +87,7 @@ fn row(c: &[u16], t: &[u16], w: &mut [u32], n: u32, q: u32, k: u32) -> u32
 
 // The rows of all n states; the answer is the number of nonterminal transitions.
 fn rows(c: &[u16], t: &[u16], w: &mut [u32], n: u32) -> u32
-    requires { ⌜ (formFault (now c) ≡ 0) × Numbered (now c) n (nextOf (now c) (now t) n) × (16384 ≤ length (now w)) × Passed (now c) (nextOf (now c) (now t) n) (now w) 0 1 0 0 ⌝ }
+    requires { ⌜ (formFault (now c) ≡ 0) × Numbered (now c) n (nextOf (now c) (now t) n) × (halvesSize ≤ length (now w)) × Passed (now c) (nextOf (now c) (now t) n) (now w) 0 1 0 0 ⌝ }
     ensures { λ k. ⌜ Come (now (c .entry)) (nextOf (now (c .entry)) (now (t .entry)) n) (now (w .entry)) (now (w .exit)) n 1 k n ⌝ }
 {
     let mut k: u32 = 0;
@@ -103,7 +103,7 @@ fn rows(c: &[u16], t: &[u16], w: &mut [u32], n: u32) -> u32
 
 // For the states that there are not, the number of all transitions.
 fn close(w: &mut [u32], n: u32, k: u32)
-    requires { ⌜ (n ≤ 256) × (16384 ≤ length (now w)) ⌝ }
+    requires { ⌜ (n ≤ 256) × (halvesSize ≤ length (now w)) ⌝ }
     ensures { λ _. ⌜ ((c : List ℕ) (next : ℕ → ℕ → ℕ) → Numbered c n next → 1 ≤ terminals c → Passed c next (now (w .entry)) n 1 k n → Come c next (now (w .entry)) (now (w .exit)) n 1 k 257) ⌝ }
 {
     let mut u: u32 = n;
@@ -116,7 +116,7 @@ fn close(w: &mut [u32], n: u32, k: u32)
 
 // All of it: the answer is the number of nonterminal transitions, of which the area holds at most 2,048.
 pub fn build(c: &[u16], t: &[u16], w: &mut [u32], n: u32, e: u64) -> u32
-    requires { ⌜ (formFault (now c) ≡ 0) × Numbered (now c) n (nextOf (now c) (now t) n) × (16384 ≤ length (now w)) ⌝ }
+    requires { ⌜ (formFault (now c) ≡ 0) × Numbered (now c) n (nextOf (now c) (now t) n) × (halvesSize ≤ length (now w)) ⌝ }
     ensures { λ k. ⌜ Built (now (c .entry)) (now (w .entry)) (now (w .exit)) n k e (nextOf (now (c .entry)) (now (t .entry)) n) ⌝ }
 {
     occurrences::prepare(c, w, e);
@@ -157,7 +157,7 @@ fn shifts(c: &[u16], t: &[u16], n: u32, q: u32) -> u64
 
 // Those of every state, in the words from 6144 on.
 fn words(c: &[u16], t: &[u16], z: &mut [u64], n: u32)
-    requires { ⌜ (formFault (now c) ≡ 0) × (n ≤ 256) × (8192 ≤ length (now z)) ⌝ }
+    requires { ⌜ (formFault (now c) ≡ 0) × (n ≤ 256) × (wordsSize ≤ length (now z)) ⌝ }
     ensures { λ _. ⌜ ((w : List ℕ) → Copied (now (c .entry)) w (nextOf (now (c .entry)) (now (t .entry)) n) (now (z .entry)) (now (z .exit)) n 0) ⌝ }
 {
     let mut q: u32 = 0;
@@ -183,7 +183,7 @@ fn ending(c: &[u16], w: &[u32], i: u32) -> u64
 
 // The direct reads of the k transitions, in the words from 0 on.
 pub fn direct(c: &[u16], t: &[u16], w: &[u32], z: &mut [u64], n: u32, k: u32)
-    requires { ⌜ Numbered (now c) n (nextOf (now c) (now t) n) × (8192 ≤ length (now z)) × ((e : ℕ) × Data (now c) (now w) n k e (nextOf (now c) (now t) n)) ⌝ }
+    requires { ⌜ Numbered (now c) n (nextOf (now c) (now t) n) × (wordsSize ≤ length (now z)) × ((e : ℕ) × Data (now c) (now w) n k e (nextOf (now c) (now t) n)) ⌝ }
     ensures { λ _. ⌜ Begun (now (c .entry)) (now (w .entry)) n k (nextOf (now (c .entry)) (now (t .entry)) n) (now (z .entry)) (now (z .exit)) ⌝ }
 {
     words(c, t, z, n);

@@ -1,6 +1,6 @@
 use native.Mathlib.Omega.{arith}
 use borrow.Author.Needs.{needs}
-use Rattle.tables.specs.Layout.{rowOf}
+use Rattle.areas.specs.Areas.{rowOf}
 use Rattle.cells.proofs.AreaLaws.{finished}
 use Rattle.cells.proofs.finish.Statement.{statement}
 use Rattle.cells.proofs.finish.Tie as tie

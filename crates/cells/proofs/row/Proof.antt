@@ -3,8 +3,8 @@ use mathlib.Core.Path.{_≡_, _∙_}
 use native.Mathlib.Omega.{arith}
 use denote.Ref.{now}
 use borrow.Author.Needs.{needs}
-use Rattle.tables.specs.Layout.{rowOf}
-use Rattle.tables.proofs.RowLaws.{row-is}
+use Rattle.areas.specs.Areas.{rowOf}
+use Rattle.areas.proofs.RowLaws.{row-is}
 use Rattle.cells.proofs.row.Statement.{statement}
 use Rattle.cells.proofs.row.Tie as tie
 

@@ -6,11 +6,12 @@ use borrow.Author.Needs.{needs}
 use Rattle.closures.proofs.AreaLaws.{added}
 use Rattle.closures.proofs.MaskLaws.{Clearing, clearing-start, clearing-more, cleared}
 use Rattle.grammar.proofs.CardLaws.{well-formed}
+use Rattle.areas.specs.Areas.{wordsSize}
 use Rattle.closures.proofs.clear_masks.Statement.{statement}
 use Rattle.closures.proofs.clear_masks.Tie as tie
 
 abbrev Inv-loop : tie.InvT-loop
-Inv-loop c z₀ n x₀ z x = Clearing z₀ z x × (x ≤ n) × (n ≤ 124) × (8192 ≤ length z)
+Inv-loop c z₀ n x₀ z x = Clearing z₀ z x × (x ≤ n) × (n ≤ 124) × (wordsSize ≤ length z)
 
 abbrev μ-loop : tie.MeasureT-loop
 μ-loop c z₀ n x₀ z x = n - x

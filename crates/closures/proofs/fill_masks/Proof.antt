@@ -10,11 +10,12 @@ use Rattle.closures.proofs.NumberLaws.{after-most}
 use Rattle.closures.specs.Areas.{Masked}
 use Rattle.grammar.proofs.CardLaws.{well-formed}
 use Rattle.grammar.specs.Card.{terminals, nonterminals}
+use Rattle.areas.specs.Areas.{wordsSize}
 use Rattle.closures.proofs.fill_masks.Statement.{statement}
 use Rattle.closures.proofs.fill_masks.Tie as tie
 
 abbrev Inv-loop : tie.InvT-loop
-Inv-loop c w z₀ i₀ z i = Masked c z₀ z i × (i ≤ 704) × (8192 ≤ length z)
+Inv-loop c w z₀ i₀ z i = Masked c z₀ z i × (i ≤ 704) × (wordsSize ≤ length z)
 
 abbrev μ-loop : tie.MeasureT-loop
 μ-loop c w z₀ i₀ z i = 704 - i

@@ -4,6 +4,7 @@ use mathlib.Core.Logic.{⊎-elim}
 use native.Mathlib.Omega.{arith}
 use Prim.Native.Nat.{ℕ, _-_, _≤_, _<_}
 use lib.ListN.{length}
+use Rattle.areas.specs.Areas.{wordsSize}
 use Rattle.relations.specs.Edge.{Edge}
 use Rattle.digraph.specs.Completion.{at}
 use Rattle.digraph.specs.Walk.{InvIn, numIn}
@@ -31,7 +32,7 @@ visit-requires : tie.Need-visit-requires Inv-loop μ-loop
 visit-requires c κs =
     let p = c .before .before .before .before .before .before .before .before .before .before .pre in
     let l = c .before .before .loop in
-    let long : 8192 ≤ length (l .z) = omega (arith, p .2, c .before .before .before .before .before .clear .kept .0, l .inv .0) in
+    let long : wordsSize ≤ length (l .z) = omega (arith, p .2, c .before .before .before .before .before .clear .kept .0, l .inv .0) in
     (steps.empty-room (c .before .before .before .before .before .before .before .before .before .before .args .k) (l .z) (p .1) long, p .0, c .before .loop-test .taken)
 
 add-x : tie.Need-add-x Inv-loop μ-loop

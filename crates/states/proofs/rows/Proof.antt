@@ -7,8 +7,8 @@ use lib.Seq.{getD-set-same}
 use borrow.Author.Needs.{needs}
 use Rattle.grammar.proofs.CardLaws.{well-formed}
 use Rattle.states.proofs.TableLaws.{table-start, table-more, rowed-whole, rowed-stopped}
-use Rattle.tables.specs.Layout.{rowOf}
-use Rattle.tables.proofs.RowLaws.{row-zero, row-next, row-fits}
+use Rattle.areas.specs.Areas.{rowOf}
+use Rattle.areas.proofs.RowLaws.{row-zero, row-next, row-fits}
 use Rattle.states.specs.States.{Table, finished, beyond}
 use Rattle.states.proofs.rows.Statement.{statement}
 use Rattle.states.proofs.rows.Tie as tie

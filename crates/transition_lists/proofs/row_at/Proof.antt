@@ -3,8 +3,8 @@ use mathlib.Core.Path.{_≡_, _∙_}
 use native.Mathlib.Omega.{arith}
 use denote.Ref.{now}
 use Rattle.grammar.proofs.CardLaws.{well-formed}
-use Rattle.tables.specs.Layout.{rowOf}
-use Rattle.tables.proofs.RowLaws.{row-is, row-most}
+use Rattle.areas.specs.Areas.{tableSize, rowOf}
+use Rattle.areas.proofs.RowLaws.{row-is, row-most}
 use borrow.Author.Needs.{needs}
 use Rattle.transition_lists.proofs.row_at.Statement.{statement}
 use Rattle.transition_lists.proofs.row_at.Tie as tie
@@ -43,7 +43,7 @@ wide32-requires c κs = search needs
 place-is : (c : tie.After-wide32) → 4 + 2 * c .before .wide3 .result + c .wide32 .result * (c .before .before .before .before .before .wide .result + c .before .before .before .wide2 .result) ≡ rowOf (now (c .before .before .before .before .before .before .before .before .args .c)) (c .before .before .before .before .before .before .before .before .args .q)
 place-is c = row-is _ (c .before .before .before .before .before .wide .ensures ∙ c .before .before .before .before .before .before .terminals .ensures) (c .before .before .before .wide2 .ensures ∙ c .before .before .before .before .nonterminals .ensures) (c .before .wide3 .ensures ∙ c .before .before .productions .ensures) (c .wide32 .ensures)
 
-place-small : (c : tie.After-wide32) → rowOf (now (c .before .before .before .before .before .before .before .before .args .c)) (c .before .before .before .before .before .before .before .before .args .q) ≤ 32004
+place-small : (c : tie.After-wide32) → rowOf (now (c .before .before .before .before .before .before .before .before .args .c)) (c .before .before .before .before .before .before .before .before .args .q) ≤ tableSize
 place-small c =
     let start = c .before .before .before .before .before .before .before .before in
     row-most _ (well-formed (now (start .args .c)) (start .pre .0)) (start .args .q) 256 (omega (arith, start .pre .1))

@@ -1,4 +1,4 @@
--- The rows of a card's table: one behind the other, and 256 of them within 32,004 places.
+-- The rows of a card's table: one behind the other, and 256 of them within the table area.
 use Prim.Native.Nat.{ℕ, _+_, _*_, _≤_, _<_}
 use mathlib.Core.Path.{_≡_, refl}
 use mathlib.Core.List.{List}
@@ -7,8 +7,8 @@ use native.Mathlib.Numerals.{add-one}
 use native.Mathlib.Omega.{arith}
 use Rattle.grammar.specs.Card.{terminals, nonterminals, productions}
 use Rattle.grammar.proofs.CardLaws.{WellFormed}
-use Rattle.tables.specs.Layout.{rowOf}
 use Rattle.tables.proofs.Places.{row-within}
+use Rattle.areas.specs.Areas.{tableSize, rowOf}
 
 -- the place by numbers that stand for the card's
 pub row-is : (c : List ℕ) {q t n p s : ℕ} → t ≡ terminals c → n ≡ nonterminals c → p ≡ productions c → s ≡ q → 4 + 2 * p + s * (t + n) ≡ rowOf c q
@@ -35,5 +35,5 @@ row-most c f q n h =
     let m : q * (terminals c + nonterminals c) ≤ n * 124 = mul-le-mul h w in
     omega (arith, f .limits .productions-to)
 
-pub row-fits : (c : List ℕ) → WellFormed c → (q : ℕ) → q < 256 → rowOf c q + (terminals c + nonterminals c) ≤ 32004
+pub row-fits : (c : List ℕ) → WellFormed c → (q : ℕ) → q < 256 → rowOf c q + (terminals c + nonterminals c) ≤ tableSize
 row-fits c f q h = let e = row-mono c q 256 h in let m = row-most c f 256 256 (omega arith) in omega arith

@@ -10,9 +10,10 @@ use native.Mathlib.Omega.{arith}
 use Rattle.sets.proofs.TestLaws.{and-left, and-right, all-at}
 use Rattle.grammar.specs.Grammar.{Symbols}
 use Rattle.tables.specs.Layout.{states, terminals, cellOf, leftOf, lengthOf}
-use Rattle.machine.specs.LrMachine.{peek, rest, Config, conf, Step, Steps}
+use Rattle.sets.specs.Lists.{peek, rest}
+use Rattle.machine.specs.LrMachine.{Config, conf, Step, Steps}
 use Rattle.machine.specs.Checks.{terminalOk, inputOk}
 use Rattle.machine.proofs.Checked.{Passed, shift-passed, reduce-passed, left-passed, goto-passed}
 
 pub data Below (n : ℕ) : List ℕ → Type 0 where
   none : Below n []
