@@ -30,6 +30,13 @@ leftOf t r = getD t (4 + r) 0
 unfoldable pub lengthOf : List ℕ → ℕ → ℕ
 lengthOf t r = getD t (4 + productions t + r) 0
 
+-- the values of a terminal's cell: "0 is wrong, 1 to Q−1 shifts to that state, 1,024+r reduces by rule r, 4,096 accepts"
+abbrev pub reduction : ℕ → ℕ
+reduction r = 1024 + r
+
+abbrev pub accept : ℕ
+accept = 4096
+
 -- where the row of state q begins in a table of p productions with rows of w cells, which is the size of such a table of q states
 abbrev pub rowAt : ℕ → ℕ → ℕ → ℕ
 rowAt p w q = 4 + 2 * p + q * w
