@@ -55,7 +55,7 @@ fn make(c: &[u16], t: &mut [u16], z: &mut [u64], w: &mut [u32]) -> Answer
     }
     let e = nonterminals::nullable(c);
     let k = transition_lists::build(c, t, w, n as u32, e);
-    if 2048 < k {
+    if transitions::LIMIT < k {
         clear(t, z, w);
         return Answer::Refused(12);
     }

@@ -13,6 +13,7 @@ use Rattle.items.specs.Item.{item}
 use Rattle.grammar.specs.Card.{terminals, leftOf}
 use Rattle.state_sets.specs.Words.{Lowest}
 use Rattle.state_sets.proofs.WordLaws.{out-in, out-or, out-less}
+use Rattle.transitions.specs.Places.{transitionLimit}
 use Rattle.transitions.specs.Area.{leavesOf, nonterminalOf, productionOf, dotOf, linkOf, lastOf, occurrencesOf, nullablesOf}
 use Rattle.transitions.specs.Occurrences.{symbolAt, occurringOf, Latest, Occurs}
 use Rattle.transitions.specs.Data.{Ordered}
@@ -127,14 +128,14 @@ module _ (c w : List ℕ) (x a₀ : ℕ) (s₀ : List ℕ) (a : ℕ) (s : List �
     unfolding roomOf
     fewer = let n = out-less s s′ p (low .here h) e 256 h in omega arith
 
-    pub reached-skip : 2048 ≤ y → Reached c w x a₀ s₀ a s′
+    pub reached-skip : transitionLimit ≤ y → Reached c w x a₀ s₀ a s′
     reached-skip g = record {
       stands = stays;
       kept = λ k z O l r. ⊎-elim (λ (q : z ≡ y). absurd (let f = O .few in let b : ⊥ = omega arith in b)) (λ q. q) (took k z O l (R .kept k z O l r));
       less = omega (arith, fewer, R .less);
     }
 
-    pub reached-found : (k : ℕ) → Ordered c w k → 0 < a → y < 2048 → (cursor : Cursor) → cursor .at ≡ a₀ → cursor .set ≡ s₀
+    pub reached-found : (k : ℕ) → Ordered c w k → 0 < a → y < transitionLimit → (cursor : Cursor) → cursor .at ≡ a₀ → cursor .set ≡ s₀
         → Nexts 1 c w k x cursor (record { more = true; node = y; cursor = record { at = a; set = s′ } })
     unfolding roomOf occurringOf
     reached-found k O g l cursor ea es =

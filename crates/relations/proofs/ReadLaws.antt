@@ -9,6 +9,7 @@ use native.Mathlib.Nat.{eq-or-lt-of-le}
 use Rattle.sets.specs.Bit.{bit, Tells}
 use Rattle.sets.proofs.HasLaws.{lt-or-ge}
 use Rattle.grammar.specs.Card.{terminals}
+use Rattle.transitions.specs.Places.{transitionLimit}
 use Rattle.transitions.specs.Area.{nonterminalOf, entersOf, firstOf, nullablesOf}
 use Rattle.transitions.specs.Occurrences.{Nullable}
 use Rattle.transitions.specs.Data.{Ordered}
@@ -44,7 +45,7 @@ index-here w p x i hp l h e c k O =
     let a = O .from p i hp l h in
     record { inside = λ z. a .0; leaves = λ z. a .1; symbol = λ z. e; all = λ y hy ly ny. O .one y i hy (a .0) (ly ∙ sym (a .1)) (ny ∙ sym e) }
 
-pub index-none : (w : List ℕ) (p x i : ℕ) → firstOf w (p + 1) ≤ i → ((y : ℕ) → firstOf w p ≤ y → y < i → nonterminalOf w y ≡ x → ⊥) → (c : List ℕ) (k : ℕ) → Ordered c w k → Index w k p x 2048
+pub index-none : (w : List ℕ) (p x i : ℕ) → firstOf w (p + 1) ≤ i → ((y : ℕ) → firstOf w p ≤ y → y < i → nonterminalOf w y ≡ x → ⊥) → (c : List ℕ) (k : ℕ) → Ordered c w k → Index w k p x transitionLimit
 index-none w p x i h gap c k O = record {
   inside = λ z. absurd (let y : ⊥ = omega arith in y);
   leaves = λ z. absurd (let y : ⊥ = omega arith in y);

@@ -31,11 +31,10 @@ fn join_predecessors(w: &[u32], s: [u64; 4], x: u32, q: u32) -> [u64; 4]
     if transitions::entering(w, q) != x {
         return s;
     }
-    let b = 6657 + 8 * card::wide32(q);
     let mut t = s;
     let mut j: usize = 0;
     while j < 4 {
-        t[j] = t[j] | transitions::pair(w, b + 2 * j);
+        t[j] = t[j] | transitions::predecessors(w, q, j);
         j += 1;
     }
     t
@@ -77,7 +76,7 @@ pub fn back(c: &[u16], w: &[u32], q: u32, r: u32, d: u32) -> [u64; 4]
     s
 }
 
-// The number of the transition from state p by the nonterminal x, or 2048 where there is none.
+// The number of the transition from state p by the nonterminal x, or the limit where there is none.
 pub fn index(w: &[u32], p: u32, x: u32) -> u32
     requires { ⌜ p < 256 ⌝ }
     ensures { λ r. ⌜ ((c : List ℕ) (k : ℕ) → Ordered c (now (w .entry)) k → Index (now (w .entry)) k p x r) ⌝ }
@@ -90,7 +89,7 @@ pub fn index(w: &[u32], p: u32, x: u32) -> u32
         }
         i += 1;
     }
-    2048
+    transitions::LIMIT
 }
 
 // Whether x is a nullable nonterminal, by the word e.
@@ -184,7 +183,7 @@ fn next_includes(c: &[u16], w: &[u32], x: u32, cursor: Cursor) -> Found
                 p,
                 card::wider(card::left(c, transitions::production(w, at - 1) as u16)),
             );
-            if y < 2048 {
+            if y < transitions::LIMIT {
                 let next = Cursor { at: at, set: rest };
                 return Found {
                     more: true,

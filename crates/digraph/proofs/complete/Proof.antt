@@ -6,6 +6,7 @@ use Prim.Native.Nat.{ℕ, _-_, _≤_, _<_}
 use lib.ListN.{length}
 use Rattle.areas.specs.Areas.{wordsSize}
 use Rattle.relations.specs.Edge.{Edge}
+use Rattle.transitions.specs.Places.{shiftsAt}
 use Rattle.digraph.specs.Completion.{at}
 use Rattle.digraph.specs.Walk.{InvIn, numIn}
 use Rattle.digraph.proofs.Theory.{below-suc}
@@ -17,7 +18,7 @@ abbrev Inv-loop : tie.InvT-loop
 Inv-loop kind c w z₀ k x₀ z x =
     (length z ≡ length z₀)
     × ((start : ℕ → ℕ) → InvIn (Edge kind c w k) k start z₀ 0 → InvIn (Edge kind c w k) k start z 0)
-    × ((v : ℕ) → v < x → numIn z v ≡ 0 → ⊥) × ((i : ℕ) → 6144 ≤ i → at z i ≡ at z₀ i)
+    × ((v : ℕ) → v < x → numIn z v ≡ 0 → ⊥) × ((i : ℕ) → shiftsAt ≤ i → at z i ≡ at z₀ i)
 
 abbrev μ-loop : tie.MeasureT-loop
 μ-loop kind c w z₀ k x₀ z x = k - x
