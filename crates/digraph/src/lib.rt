@@ -8,10 +8,11 @@ ghost use lib.ListN.{length, set};
 ghost use lib.Bits.{bitOr};
 ghost use Rattle.areas.specs.Areas.{wordsSize};
 ghost use Rattle.transitions.specs.Places.{transitionLimit, numbersAt, stackAt};
+ghost use Rattle.transitions.specs.Data.{Ordered};
 ghost use Rattle.relations.specs.Edge.{Edge};
-ghost use Rattle.relations.specs.Walk.{Ready};
 ghost use Rattle.digraph.specs.Completion.{Walked, at};
 ghost use Rattle.digraph.specs.Walk.{Room, Entered, Visited, Scanned, Popped, Finished, Cleared, None, numIn, stkIn};
+use relations::Relation;
 
 // The number of a node whose set is complete (the paper's infinity).
 const COMPLETE: u64 = 65535;
@@ -86,27 +87,43 @@ fn finish(z: &mut [u64], k: usize, x: usize, base: usize, depth: usize) -> usize
 }
 
 // Enters x, which is not visited, with `depth` nodes on the stack; gives the number of nodes on it afterwards, as visit and scan do.
-fn enter(kind: u32, c: &[u16], w: &[u32], z: &mut [u64], k: usize, x: usize, depth: usize) -> usize
-    requires { ⌜ Room k (now z) depth × Ready kind (now c) (now w) k × (x < k) × (numIn (now z) x ≡ 0) ⌝ }
-    ensures { λ r. ⌜ Entered (Edge kind (now (c .entry)) (now (w .entry)) k) k (now (z .entry)) depth x (now (z .exit)) r ⌝ }
+fn enter(
+    relation: Relation,
+    c: &[u16],
+    w: &[u32],
+    z: &mut [u64],
+    k: usize,
+    x: usize,
+    depth: usize,
+) -> usize
+    requires { ⌜ Room k (now z) depth × Ordered (now c) (now w) k × (x < k) × (numIn (now z) x ≡ 0) ⌝ }
+    ensures { λ r. ⌜ Entered (Edge relation (now (c .entry)) (now (w .entry)) k) k (now (z .entry)) depth x (now (z .exit)) r ⌝ }
 {
     push(z, x, depth);
-    let d = scan(kind, c, w, z, k, x, depth + 1);
+    let d = scan(relation, c, w, z, k, x, depth + 1);
     finish(z, k, x, depth, d)
 }
 
 // Follows the edges of x, which is on the stack.
-fn scan(kind: u32, c: &[u16], w: &[u32], z: &mut [u64], k: usize, x: usize, depth: usize) -> usize
-    requires { ⌜ Room k (now z) depth × Ready kind (now c) (now w) k × (x < k) ⌝ }
-    ensures { λ r. ⌜ Scanned (Edge kind (now (c .entry)) (now (w .entry)) k) k (now (z .entry)) depth x (now (z .exit)) r None ⌝ }
+fn scan(
+    relation: Relation,
+    c: &[u16],
+    w: &[u32],
+    z: &mut [u64],
+    k: usize,
+    x: usize,
+    depth: usize,
+) -> usize
+    requires { ⌜ Room k (now z) depth × Ordered (now c) (now w) k × (x < k) ⌝ }
+    ensures { λ r. ⌜ Scanned (Edge relation (now (c .entry)) (now (w .entry)) k) k (now (z .entry)) depth x (now (z .exit)) r None ⌝ }
 {
     let mut d = depth;
-    let mut cursor = relations::first_edge(kind, c, w, x as u32);
+    let mut cursor = relations::first_edge(relation, c, w, x as u32);
     loop {
-        let found = relations::next_edge(kind, c, w, x as u32, cursor);
+        let found = relations::next_edge(relation, c, w, x as u32, cursor);
         if found.more {
             let y = found.node as usize;
-            d = visit(kind, c, w, z, k, y, d);
+            d = visit(relation, c, w, z, k, y, d);
             join(z, x, y);
             let rest = found.cursor;
             cursor = rest;
@@ -117,12 +134,20 @@ fn scan(kind: u32, c: &[u16], w: &[u32], z: &mut [u64], k: usize, x: usize, dept
 }
 
 // Enters y unless it is visited.
-fn visit(kind: u32, c: &[u16], w: &[u32], z: &mut [u64], k: usize, y: usize, depth: usize) -> usize
-    requires { ⌜ Room k (now z) depth × Ready kind (now c) (now w) k × (y < k) ⌝ }
-    ensures { λ r. ⌜ Visited (Edge kind (now (c .entry)) (now (w .entry)) k) k (now (z .entry)) depth y (now (z .exit)) r ⌝ }
+fn visit(
+    relation: Relation,
+    c: &[u16],
+    w: &[u32],
+    z: &mut [u64],
+    k: usize,
+    y: usize,
+    depth: usize,
+) -> usize
+    requires { ⌜ Room k (now z) depth × Ordered (now c) (now w) k × (y < k) ⌝ }
+    ensures { λ r. ⌜ Visited (Edge relation (now (c .entry)) (now (w .entry)) k) k (now (z .entry)) depth y (now (z .exit)) r ⌝ }
 {
     if z[transitions::NUMBERS_AT + y] == 0 {
-        enter(kind, c, w, z, k, y, depth)
+        enter(relation, c, w, z, k, y, depth)
     } else {
         depth
     }
@@ -140,15 +165,15 @@ fn clear(z: &mut [u64], k: usize)
     }
 }
 
-// Completes the sets of the nodes 0 to k - 1 along the relation `kind`.
-pub fn complete(kind: u32, c: &[u16], w: &[u32], z: &mut [u64], k: usize)
-    requires { ⌜ Ready kind (now c) (now w) k × (k ≤ transitionLimit) × (wordsSize ≤ length (now z)) ⌝ }
-    ensures { λ _. ⌜ Walked (Edge kind (now (c .entry)) (now (w .entry)) k) k (now (z .entry)) (now (z .exit)) ⌝ }
+// Completes the sets of the nodes 0 to k - 1 along the relation.
+pub fn complete(relation: Relation, c: &[u16], w: &[u32], z: &mut [u64], k: usize)
+    requires { ⌜ Ordered (now c) (now w) k × (k ≤ transitionLimit) × (wordsSize ≤ length (now z)) ⌝ }
+    ensures { λ _. ⌜ Walked (Edge relation (now (c .entry)) (now (w .entry)) k) k (now (z .entry)) (now (z .exit)) ⌝ }
 {
     clear(z, k);
     let mut x: usize = 0;
     while x < k {
-        visit(kind, c, w, z, k, x, 0);
+        visit(relation, c, w, z, k, x, 0);
         x += 1;
     }
 }

@@ -49,7 +49,7 @@ pub const SHIFTS_AT: usize = STACK_AT + LIMIT as usize;
 // ---- the area's numbers, each with an answer for every slice
 
 // The number at place i, and 0 past the end.
-pub fn at(w: &[u32], i: usize) -> u32
+fn at(w: &[u32], i: usize) -> u32
     ensures { λ r. ⌜ r ≡ getD (now (w .entry)) i 0 ⌝ }
 {
     if i < w.len() { w[i] } else { 0 }
