@@ -25,6 +25,7 @@ use Rattle.lalr.specs.Meaning.{AllUseful, Sized, Judged, useless, many, wide, c
 use Rattle.lalr.proofs.Finish.{Room, judged, by-card, left-alone, all-covered, table-found}
 use Rattle.lalr.proofs.Main.{card-answer}
 use Rattle.states.specs.States.{transition}
+use Rattle.transitions.specs.Places.{transitionLimit}
 use Rattle.transitions.specs.Next.{nextOf, Numbered, transitionCount}
 use Rattle.transitions.specs.Data.{Data}
 use Rattle.tables.specs.Conflicts.{Conflict}
@@ -102,10 +103,10 @@ module _ (t₀ z₀ w₀ c : List ℕ) where
       numbers-states = numbered stated
 
       -- 12
-      pub twelve : (k : ℕ) → k ≡ transitionCount c (nextOf c t n) n → 2048 < k → generated t₀ z₀ w₀ c .answer ≡ refused 12
+      pub twelve : (k : ℕ) → k ≡ transitionCount c (nextOf c t n) n → transitionLimit < k → generated t₀ z₀ w₀ c .answer ≡ refused 12
       twelve k e h = judged t₀ z₀ w₀ c o f (refused 12) (wide n (nextOf c t n) u (stated .states) few (rw (transition-count c (nextOf c t n) n) at (rw e at h)))
 
-      module _ (w z₁ z : List ℕ) (k e : ℕ) (count : k ≡ transitionCount c (nextOf c t n) n) (small : k ≤ 2048) (data′ : Data c w n k e (nextOf c t n))
+      module _ (w z₁ z : List ℕ) (k e : ℕ) (count : k ≡ transitionCount c (nextOf c t n) n) (small : k ≤ transitionLimit) (data′ : Data c w n k e (nextOf c t n))
           (null : (j : ℕ) → j < nonterminals c → Tells (bit e j) (Derives (grammarOf c) ((terminals c + j) ∷ []) [])) (co : Complete c w n k (nextOf c t n) z₁ z) where
         followed : Followed c w n k e (nextOf c t n) z
         followed = record { stated = stated; listed = data′; nullable = null; begun = co .begun; between = co .between; direct = co .direct; reads = co .reads; includes = co .includes }

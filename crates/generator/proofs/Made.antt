@@ -18,6 +18,7 @@ use Rattle.states.specs.States.{transition}
 use Rattle.states.specs.States as states
 use Rattle.automaton.specs.Outcome.{Outcome, few, many}
 use Rattle.automaton.proofs.Outcomes.{outcome}
+use Rattle.transitions.specs.Places.{transitionLimit}
 use Rattle.transitions.specs.Next.{nextOf, Numbered}
 use Rattle.transitions.specs.Data.{Data}
 use Rattle.transitions.specs.Data as lists
@@ -71,14 +72,14 @@ module _ (t₀ z₀ w₀ c : List ℕ) (o : Room t₀ z₀ w₀) (f : formFault 
         same-halves = covered-same halvesSize [] w₀ w₂ (l .long ∙ lw) (λ i h. l .rest i (omega arith) ∙ b .words-kept .kept i (omega arith))
 
         -- refusal 12
-        pub twelve-met : {t z w : List ℕ} → 2048 < k → Cleared t₁ z₁ w₂ t z w → GeneratesAs (generated t₀ z₀ w₀ c) (Refused 12) t z w
+        pub twelve-met : {t z w : List ℕ} → transitionLimit < k → Cleared t₁ z₁ w₂ t z w → GeneratesAs (generated t₀ z₀ w₀ c) (Refused 12) t z w
         twelve-met {t} {z} {w} h cl =
             covers-all t₀ z₀ w₀ c (refused 12) (Refused 12) t z w (twelve t₀ z₀ w₀ c o f u t₁ n small (found c t₁ n after small) k (l .count) h) refl refl
             (cl .table ∙ same-table [])
             (cl .words ∙ same-words)
             (cl .halves ∙ same-halves)
 
-        module _ (narrow : k ≤ 2048) (z₂ : List ℕ) (co : Complete c w₂ n k (nextOf c t₁ n) z₁ z₂) where
+        module _ (narrow : k ≤ transitionLimit) (z₂ : List ℕ) (co : Complete c w₂ n k (nextOf c t₁ n) z₁ z₂) where
           pub stage : Stage c t₁ w₂ z₂ n
           stage =
               record {

@@ -13,6 +13,7 @@ ghost use Rattle.lalr.proofs.Finish.{Room};
 ghost use Rattle.generator.specs.Answer.{GeneratesAs};
 ghost use Rattle.generator.specs.Phases.{Cleared, Complete};
 use lookaheads::Clash;
+use relations::Relation;
 
 // A table; a refusal with its number alone; 10 with the nonterminal; 13 with state, terminal and the two lowest values.
 pub enum Answer {
@@ -39,8 +40,8 @@ fn walk(c: &[u16], t: &[u16], w: &[u32], z: &mut [u64], n: u32, k: u32)
 {
     transition_lists::direct(c, t, w, z, n, k);
     let nodes = card::wide32(k);
-    digraph::complete(0, c, w, z, nodes);
-    digraph::complete(1, c, w, z, nodes);
+    digraph::complete(Relation::Reads, c, w, z, nodes);
+    digraph::complete(Relation::Includes, c, w, z, nodes);
 }
 
 // The table of a card to which none of the refusals 1 to 10 applies, or refusal 11, 12 or 13.
@@ -55,7 +56,7 @@ fn make(c: &[u16], t: &mut [u16], z: &mut [u64], w: &mut [u32]) -> Answer
     }
     let e = nonterminals::nullable(c);
     let k = transition_lists::build(c, t, w, n as u32, e);
-    if 2048 < k {
+    if transitions::LIMIT < k {
         clear(t, z, w);
         return Answer::Refused(12);
     }

@@ -15,6 +15,7 @@ use Rattle.grammar.specs.Card.{terminals, nonterminals, productions}
 use Rattle.grammar.proofs.CardLaws.{well-formed}
 use Rattle.areas.specs.Areas.{tableSize, rowOf}
 use Rattle.areas.proofs.RowLaws.{row-next, row-mono, row-most}
+use Rattle.transitions.specs.Places.{shiftsAt}
 use Rattle.transitions.specs.Next.{nextOf, Numbered}
 use Rattle.transitions.specs.Data.{Ordered, Holds, Shifts}
 use Rattle.tables.specs.Conflicts.{Single, Lowest, Before, lower-state, lower-symbol}
@@ -189,7 +190,7 @@ module _ (c t₀ w z : List ℕ) (n k : ℕ) (stage : Stage c t₀ w z n) (o : O
       let e : k ≡ stage .transitions = sym (o .total) ∙ stage .ordered .total in
       stage .terminals (y .transition) m (omega (arith, y .below)) (y .follows)
 
-  pub known : (q q′ a p s : ℕ) (found : List ℕ) (accept meet : ℕ) → q < n → q′ ≡ q → a ≡ getD t₀ (rowOf c 0 + terminals c) 0 → p ≡ productions c → s ≡ getD z (6144 + q) 0
+  pub known : (q q′ a p s : ℕ) (found : List ℕ) (accept meet : ℕ) → q < n → q′ ≡ q → a ≡ getD t₀ (rowOf c 0 + terminals c) 0 → p ≡ productions c → s ≡ getD z (shiftsAt + q) 0
       → ((r : ℕ) → r < productions c → Holds (getD found r 0) (LooksBack c w z k q′ r)) → Holds accept (Accepts a q)
       → ((i v : ℕ) → v < 1024 → (bit s i ≡ true) ↔ (v ≢ 0) → (bit meet i ≡ true) ↔ Two (Numbers p v found accept i)) → Known c t₀ w z n k q found accept s meet
   known q q′ a p s found accept meet h eq ea ep es looks accepting meeting = record {

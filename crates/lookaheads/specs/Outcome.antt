@@ -7,6 +7,7 @@ use lib.ListN.{length, getD}
 use Rattle.sets.specs.Bit.{bit}
 use Rattle.grammar.specs.Card as card
 use Rattle.areas.specs.Areas.{tableSize, wordsSize, halvesSize, rowOf}
+use Rattle.transitions.specs.Places.{shiftsAt}
 use Rattle.transitions.specs.Next.{nextOf, Numbered}
 use Rattle.transitions.specs.Data.{Ordered, Holds, Shifts}
 use Rattle.tables.specs.Conflicts.{Lowest, Conflict}
@@ -23,7 +24,7 @@ pub record Stage (c t w z : List ℕ) (n : ℕ) : Type 0 where
   pub transitions : ℕ
   pub ordered : Ordered c w transitions
   pub numbered : Numbered c n (nextOf c t n)
-  pub shifts : (q : ℕ) → q < n → Holds (getD z (6144 + q) 0) (Shifts c (nextOf c t n) q)
+  pub shifts : (q : ℕ) → q < n → Holds (getD z (shiftsAt + q) 0) (Shifts c (nextOf c t n) q)
   pub terminals : (i m : ℕ) → i < transitions → bit (getD z i 0) m ≡ true → m < card.terminals c
   pub table-long : tableSize ≤ length t
   pub words-long : wordsSize ≤ length z

@@ -6,6 +6,7 @@ ghost use lib.ListN.{length, getD};
 ghost use Rattle.items.specs.Item.{item};
 ghost use Rattle.grammar.specs.Card.{terminals, productions, lengthOf, startOf, formFault};
 ghost use Rattle.areas.specs.Areas.{tableSize, rowOf};
+ghost use Rattle.transitions.specs.Places.{transitionLimit, shiftsAt};
 ghost use Rattle.transitions.specs.Next.{Numbered};
 ghost use Rattle.transitions.specs.Data.{Ordered, Holds};
 ghost use Rattle.cells.specs.Actions.{Act};
@@ -16,11 +17,11 @@ ghost use Rattle.lookaheads.specs.Outcome.{Stage, Stands, Named, Searche
 
 // s and the set of the transition from state p by the nonterminal x, where there is one.
 fn join(w: &[u32], z: &[u64], p: u32, x: u32, s: u64) -> u64
-    requires { ⌜ (p < 256) × (2048 ≤ length (now z)) ⌝ }
+    requires { ⌜ (p < 256) × (transitionLimit ≤ length (now z)) ⌝ }
     ensures { λ r. ⌜ ((c : List ℕ) (k : ℕ) → Ordered c (now (w .entry)) k → Joins (now (w .entry)) (now (z .entry)) k p x s r) ⌝ }
 {
     let i = card::wide32(relations::index(w, p, x));
-    if i < 2048 {
+    if i < transitions::LIMIT as usize {
         return s | z[i];
     }
     s
@@ -28,7 +29,7 @@ fn join(w: &[u32], z: &[u64], p: u32, x: u32, s: u64) -> u64
 
 // The lookaheads of production r in state q.
 fn lookahead(c: &[u16], w: &[u32], z: &[u64], q: u32, r: u16) -> u64
-    requires { ⌜ ((k : ℕ) × Ordered (now c) (now w) k) × (q < 256) × (r < productions (now c)) × (2048 ≤ length (now z)) ⌝ }
+    requires { ⌜ ((k : ℕ) × Ordered (now c) (now w) k) × (q < 256) × (r < productions (now c)) × (transitionLimit ≤ length (now z)) ⌝ }
     ensures { λ s. ⌜ ((k : ℕ) → Ordered (now (c .entry)) (now (w .entry)) k → Holds s (LooksBack (now (c .entry)) (now (w .entry)) (now (z .entry)) k q r)) ⌝ }
 {
     let x = card::wider(card::left(c, r));
@@ -110,7 +111,7 @@ fn candidates(w: &[u32], keyed: &[u64; 512], q: u32) -> [u64; 2]
 
 // The lookaheads of all productions in state q; only those in `live` are looked at.
 fn words(c: &[u16], w: &[u32], z: &[u64], live: [u64; 2], q: u32) -> [u64; 128]
-    requires { ⌜ ((k : ℕ) × Ordered (now c) (now w) k) × (q < 256) × (2048 ≤ length (now z)) × ((k : ℕ) → Ordered (now c) (now w) k → Candidates (now c) (now w) k q live) ⌝ }
+    requires { ⌜ ((k : ℕ) × Ordered (now c) (now w) k) × (q < 256) × (transitionLimit ≤ length (now z)) × ((k : ℕ) → Ordered (now c) (now w) k → Candidates (now c) (now w) k q live) ⌝ }
     ensures { λ s. ⌜ Live (productions (now (c .entry))) s live
         × ((k : ℕ) → Ordered (now (c .entry)) (now (w .entry)) k → (r : ℕ) → r < productions (now (c .entry)) → Holds (getD s r 0) (LooksBack (now (c .entry)) (now (w .entry)) (now (z .entry)) k q r)) ⌝ }
 {
@@ -147,10 +148,10 @@ fn target(c: &[u16], t: &[u16]) -> u16
 
 // The terminals that state q shifts.
 fn shifts(z: &[u64], q: u16) -> u64
-    requires { ⌜ 6144 + q < length (now z) ⌝ }
-    ensures { λ r. ⌜ r ≡ getD (now (z .entry)) (6144 + q) 0 ⌝ }
+    requires { ⌜ shiftsAt + q < length (now z) ⌝ }
+    ensures { λ r. ⌜ r ≡ getD (now (z .entry)) (shiftsAt + q) 0 ⌝ }
 {
-    z[6144 + card::wide(q)]
+    z[transitions::SHIFTS_AT + card::wide(q)]
 }
 
 // No cell where two actions meet; or the first one: state, terminal and the two lowest numbers.
@@ -161,7 +162,7 @@ pub enum Clash {
 
 // The two lowest numbers at state q and terminal m, where two meet.
 fn conflict(c: &[u16], t: &[u16], w: &[u32], z: &[u64], keyed: &[u64; 512], q: u16, m: u16) -> Clash
-    requires { ⌜ ((k : ℕ) × Ordered (now c) (now w) k) × (q < 256) × (2048 ≤ length (now z)) × Keyed (now c) (now keyed) (productions (now c)) × (rowOf (now c) q ≤ tableSize) ⌝ }
+    requires { ⌜ ((k : ℕ) × Ordered (now c) (now w) k) × (q < 256) × (transitionLimit ≤ length (now z)) × Keyed (now c) (now keyed) (productions (now c)) × (rowOf (now c) q ≤ tableSize) ⌝ }
     ensures { λ r. ⌜ ((n k : ℕ) (next : ℕ → ℕ → ℕ) → Ordered (now (c .entry)) (now (w .entry)) k → Numbered (now (c .entry)) n next → m < terminals (now (c .entry))
         → getD (now (t .entry)) (rowOf (now (c .entry)) q + m) 0 ≡ next q m → Two (Act (now (c .entry)) next (LooksBack (now (c .entry)) (now (w .entry)) (now (z .entry)) k q) q m)
         → Named (Act (now (c .entry)) next (LooksBack (now (c .entry)) (now (w .entry)) (now (z .entry)) k q) q m) q m r) ⌝ }

@@ -5,6 +5,7 @@ ghost use Prim.Native.Nat.{ℕ, _+_, _<_, _≤_};
 ghost use lib.ListN.{length};
 ghost use Rattle.grammar.specs.Card.{terminals, nonterminals, formFault};
 ghost use Rattle.areas.specs.Areas.{wordsSize, halvesSize, rowOf};
+ghost use Rattle.transitions.specs.Places.{transitionLimit};
 ghost use Rattle.transitions.specs.Next.{nextOf, Numbered};
 ghost use Rattle.transitions.specs.Data.{Data, Built, Holds, Shifts, Begun};
 ghost use Rattle.transition_lists.specs.Stores.{Noted, Placed, Celled};
@@ -25,21 +26,18 @@ fn note(w: &mut [u32], q: u32, x: u32, v: u32)
     requires { ⌜ (q < 256) × (v < 256) × (halvesSize ≤ length (now w)) ⌝ }
     ensures { λ _. ⌜ Noted (now (w .entry)) q x v (now (w .exit)) ⌝ }
 {
-    let s = card::wide32(v);
-    w[6401 + s] = x;
-    let i = 6657 + 8 * s + card::wide32(q / 32);
-    w[i] = w[i] | (1 << (q % 32));
+    transitions::put(w, transitions::ENTERING_AT, v, x);
+    transitions::precede(w, v, q);
 }
 
 // Puts a transition by x from state q to state v down as number k.
 fn place(w: &mut [u32], k: u32, q: u32, x: u32, v: u32)
-    requires { ⌜ (k < 2048) × (halvesSize ≤ length (now w)) ⌝ }
+    requires { ⌜ (k < transitionLimit) × (halvesSize ≤ length (now w)) ⌝ }
     ensures { λ _. ⌜ Placed (now (w .entry)) k q x v (now (w .exit)) ⌝ }
 {
-    let i = card::wide32(k);
-    w[i] = q;
-    w[2048 + i] = x;
-    w[4096 + i] = v;
+    transitions::put(w, transitions::LEAVES_AT, k, q);
+    transitions::put(w, transitions::NONTERMINALS_AT, k, x);
+    transitions::put(w, transitions::ENTERS_AT, k, v);
 }
 
 // The cell v of state q and the symbol x, with t terminals, after k nonterminal transitions; the answer is how many there are now.
@@ -54,7 +52,7 @@ fn cell(w: &mut [u32], t: u32, k: u32, q: u32, x: u32, v: u32) -> u32
     if x < t {
         return k;
     }
-    if k < 2048 {
+    if k < transitions::LIMIT {
         place(w, k, q, x, v);
         return k + 1;
     }
@@ -93,8 +91,7 @@ fn rows(c: &[u16], t: &[u16], w: &mut [u32], n: u32) -> u32
     let mut k: u32 = 0;
     let mut q: u32 = 0;
     while q < n {
-        let i = 6144 + card::wide32(q);
-        w[i] = k;
+        transitions::put(w, transitions::FIRSTS_AT, q, k);
         k = row(c, t, w, n, q, k);
         q += 1;
     }
@@ -108,19 +105,18 @@ fn close(w: &mut [u32], n: u32, k: u32)
 {
     let mut u: u32 = n;
     while u < 257 {
-        let i = 6144 + card::wide32(u);
-        w[i] = k;
+        transitions::put(w, transitions::FIRSTS_AT, u, k);
         u += 1;
     }
 }
 
-// All of it: the answer is the number of nonterminal transitions, of which the area holds at most 2,048.
+// All of it: the answer is the number of nonterminal transitions; within the limit the area holds them.
 pub fn build(c: &[u16], t: &[u16], w: &mut [u32], n: u32, e: u64) -> u32
     requires { ⌜ (formFault (now c) ≡ 0) × Numbered (now c) n (nextOf (now c) (now t) n) × (halvesSize ≤ length (now w)) ⌝ }
     ensures { λ k. ⌜ Built (now (c .entry)) (now (w .entry)) (now (w .exit)) n k e (nextOf (now (c .entry)) (now (t .entry)) n) ⌝ }
 {
     occurrences::prepare(c, w, e);
-    occurrences::clear(w, 6401, 8705);
+    occurrences::clear(w, transitions::ENTERING_AT, transitions::STARTS_AT);
     let k = rows(c, t, w, n);
     close(w, n, k);
     k
@@ -155,14 +151,14 @@ fn shifts(c: &[u16], t: &[u16], n: u32, q: u32) -> u64
     s
 }
 
-// Those of every state, in the words from 6144 on.
+// Those of every state, in the words from SHIFTS_AT on.
 fn words(c: &[u16], t: &[u16], z: &mut [u64], n: u32)
     requires { ⌜ (formFault (now c) ≡ 0) × (n ≤ 256) × (wordsSize ≤ length (now z)) ⌝ }
     ensures { λ _. ⌜ ((w : List ℕ) → Copied (now (c .entry)) w (nextOf (now (c .entry)) (now (t .entry)) n) (now (z .entry)) (now (z .exit)) n 0) ⌝ }
 {
     let mut q: u32 = 0;
     while q < n {
-        let i = 6144 + card::wide32(q);
+        let i = transitions::SHIFTS_AT + card::wide32(q);
         z[i] = shifts(c, t, n, q);
         q += 1;
     }
@@ -189,7 +185,7 @@ pub fn direct(c: &[u16], t: &[u16], w: &[u32], z: &mut [u64], n: u32, k: u32)
     words(c, t, z, n);
     let mut i: u32 = 0;
     while i < k {
-        let j = 6144 + card::wide32(transitions::enters(w, i));
+        let j = transitions::SHIFTS_AT + card::wide32(transitions::enters(w, i));
         let o = card::wide32(i);
         z[o] = z[j] | ending(c, w, i);
         i += 1;
