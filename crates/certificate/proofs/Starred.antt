@@ -2,6 +2,7 @@
 use mathlib.Core.Path.{_≡_, refl}
 use mathlib.Core.List.{List, [], _∷_, map}
 use Prim.Native.Nat.{ℕ}
+use lib.Count.{ones, onesIn}
 use lib.ListN.{replicate}
 use Rattle.sets.specs.Bit.{bit}
 use Rattle.sets.specs.Tests.{allBelow, between}
@@ -10,9 +11,10 @@ use Rattle.grammar.specs.Card.{symbols, symbolOf, startOf, rightOf, isNontermin
 use Rattle.tables.specs.Layout
 use Rattle.tables.specs.Layout.{width, cellOf, sizeOf, build}
 use Rattle.areas.specs.Areas.{tableSize, wordsSize, halvesSize}
-use Rattle.machine.specs.Machine.{popped, topOf, actionOf, shifted, reducedTo, reduced, movedBy, after, run, start, expectedWord, expectedCount, expected, reportOf}
+use Rattle.machine.specs.Report as report
+use Rattle.machine.specs.ComputedRun.{popped, topOf, actionOf, shifted, reducedTo, reduced, movedBy, after, run, start, expectedWord, wrongAt, reportOf, reading}
 use Rattle.machine.specs.Checks
-use Rattle.machine.specs.Checks.{Reading, productionOk, terminalCellOk, cellOk, rowOk, productionsOk, cellsOk, terminalOk, inputOk, refusalOf, reading}
+use Rattle.machine.specs.Checks.{productionOk, terminalCellOk, cellOk, rowOk, productionsOk, cellsOk, terminalOk, inputOk, refusalOf}
 use Rattle.lalr.specs.Nonterminals.{nullables, productive, reachable, uselessNonterminal, firsts}
 use Rattle.lalr.specs.Lalr
 use Rattle.lalr.specs.Lalr.{facts, closure, advance, goto}
@@ -36,8 +38,8 @@ starred-cards = refl
 abbrev inputRow : InputRow → InputRow
 inputRow r =
     let d = reading (tableOf (r .card)) (r .input) (replicate (r .stack) 9) (replicate (r .list) 9) (r .limit) in
-    record { card = r .card; input = r .input; stack = r .stack; list = r .list; limit = r .limit; report = d .report; stack-left = d .stack; list-left = d .list }
+    record { card = r .card; input = r .input; stack = r .stack; list = r .list; limit = r .limit; report = report.numbersOf (d .report); stack-left = d .stack; list-left = d .list }
 
 pub starred-inputs : map inputRow inputRows ≡ inputRows
-unfolding bit allBelow between Card.terminals Card.nonterminals Card.productions symbols Card.leftOf Card.lengthOf symbolOf startOf rightOf nullables productive reachable uselessNonterminal firsts Lalr.states facts closure advance goto Lalr.start tableOf build Layout.states Layout.terminals Layout.nonterminals Layout.productions width Layout.leftOf Layout.lengthOf cellOf sizeOf popped topOf actionOf shifted reducedTo reduced movedBy after run start expectedWord expectedCount expected reportOf Checks.sizesOk productionOk terminalCellOk cellOk rowOk productionsOk cellsOk terminalOk inputOk refusalOf reading
+unfolding bit allBelow between Card.terminals Card.nonterminals Card.productions symbols Card.leftOf Card.lengthOf symbolOf startOf rightOf nullables productive reachable uselessNonterminal firsts Lalr.states facts closure advance goto Lalr.start tableOf build Layout.states Layout.terminals Layout.nonterminals Layout.productions width Layout.leftOf Layout.lengthOf cellOf sizeOf popped topOf actionOf shifted reducedTo reduced movedBy after run start ones onesIn expectedWord wrongAt reportOf Checks.sizesOk productionOk terminalCellOk cellOk rowOk productionsOk cellsOk terminalOk inputOk refusalOf reading
 starred-inputs = refl

@@ -6,8 +6,8 @@ use Prim.Native.Nat.{ℕ}
 use lib.ListN.{length}
 use lib.Dec.{eqb}
 use borrow.Author.Tests.{eq-eqb}
-use Rattle.machine.specs.Machine.{run, start}
-use Rattle.machine.specs.Checks.{refusalOf, reading}
+use Rattle.machine.specs.Checks.{refusalOf}
+use Rattle.machine.specs.ComputedRun.{run, start, reading}
 use Rattle.table_checks.specs.Verdict.{refusalNumber}
 use Rattle.table_checks.specs.declared.Refusal.{Refusal}
 use Rattle.table_checks.specs.declared.Refusal.the-variants.{TableShort, SizesWrong, ProductionWrong, CellWrong, InputLong, TerminalWrong, NoStack}
