@@ -3,17 +3,17 @@ use Prim.Native.Nat.{ℕ, zero, suc, _+_, _-_, _<_, _≤_, max}
 use mathlib.Core.Path.{_≡_, refl, sym, ap, _∙_}
 use mathlib.Core.Logic.{_≢_}
 use mathlib.Core.List.{List, [], _∷_, _++_, reverse, reverse-append, reverse-cons, append-assoc}
-use lib.ListN.{length, drop, take, getD, set, replicate, length-append, take-append-drop, length-drop, length-set, length-reverse, length-replicate, replicate-append-replicate}
+use lib.ListN.{length, drop, take, getD, set, replicate, length-append, take-append-drop, length-drop, length-set, length-reverse, replicate-append-replicate}
 use lib.Seq.{length-take-le, getD-at, getD-take, take-set-le, drop-set-lt, take-at, drop-cons, getD-set-same}
 use native.Mathlib.Nat.{add-zero}
 use native.Mathlib.Omega.{arith}
 use Rattle.sets.specs.Lists.{peek, rest, covered}
 use Rattle.sets.proofs.CoveredLaws.{covered-length, covered-front, covered-behind, covered-push}
-use Rattle.tables.specs.Layout.{states, terminals, cellOf, leftOf, lengthOf, reduction, accept}
-use Rattle.machine.specs.ComputedRun.{Machine, Next, ended, moved, accepted, popped, topOf, actionOf, reducedTo, reduced, movedBy, Outcome, after, run, start}
+use Rattle.tables.specs.Layout.{states, cellOf, leftOf, lengthOf, reduction, accept}
+use Rattle.machine.specs.ComputedRun.{Machine, Next, ended, moved, popped, topOf, actionOf, reducedTo, reduced, movedBy, after, run, start}
 use Rattle.machine.specs.Faithful.{Stops, accepted-here, wrong-here, no-steps, list-full, broken-here, stack-full}
 use Rattle.machine.proofs.Checked.{Passed}
-use Rattle.machine.proofs.LrMachineLaws.{Config, conf, depth, listed, Reduces, reduces, Step, Path, Broken, pops-all, no-next, Ends, accepts, wrong, broken, own-steps, path-depth, path-lists}
+use Rattle.machine.proofs.LrMachineLaws.{Config, conf, depth, listed, reduces, Step, Path, Broken, pops-all, no-next, accepts, wrong, broken, own-steps, path-depth, path-lists}
 use Rattle.machine.proofs.Shifts.{Below, none, more, peek-drop, rest-drop, shift-in, after-shift, after-reduce}
 use Rattle.machine.proofs.RunLaws.{shifted-goes, shifted-full, reducedTo-none, reducedTo-full, reducedTo-goes, reduced-full, reduced-broken, reduced-to, moved-shift, moved-accept, moved-reduce, run-wrong, run-none, run-more}
 

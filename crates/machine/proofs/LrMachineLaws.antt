@@ -1,12 +1,11 @@
 -- The LR machine is deterministic, and from each configuration it makes a step or ends.
-use Prim.Native.Nat.{ℕ, zero, suc, _+_, _-_, _<_, _≤_, max}
+use Prim.Native.Nat.{ℕ, zero, suc, _-_, _<_, _≤_, max}
 use mathlib.Core.Path.{_≡_, refl, sym, ap, _∙_}
 use mathlib.Core.Logic.{_≢_}
 use mathlib.Core.List.{List, [], _∷_}
 use lib.ListN.{length, drop, length-append}
 use native.Mathlib.Omega.{arith}
 use native.Mathlib.Decide.{decLt, ℕ-discrete}
-use Rattle.sets.specs.Lists.{peek, rest}
 use Rattle.tables.specs.Layout.{cellOf, leftOf, lengthOf, reduction, accept}
 pub use Rattle.machine.specs.LrMachine.{Config, conf, depth, listed, Reduces, reduces, Step, shift, reduce, Path, Broken, pops-all, no-next, Ends, accepts, wrong, broken, own-steps}
 

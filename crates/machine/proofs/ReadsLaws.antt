@@ -1,5 +1,5 @@
 -- The definition of a reading has exactly one reading for every table, input, pair of areas and step limit: the computed one.
-use Prim.Native.Nat.{ℕ, zero, suc, _+_, _-_, _<_, _≤_, max}
+use Prim.Native.Nat.{ℕ, _+_, _-_, _≤_, max}
 use mathlib.Core.Path.{_≡_, refl, sym, ap, _∙_}
 use mathlib.Core.Logic.{_≢_, _↔_}
 use mathlib.Core.List.{List, [], _∷_, _++_, reverse}
@@ -13,9 +13,9 @@ use Rattle.machine.specs.Checks.{refusalOf}
 use Rattle.machine.specs.Report.{Report, refused, wrong-at, Reading}
 use Rattle.machine.specs.Faithful.{Allowed, Stops, accepted-here, wrong-here, no-steps, list-full, broken-here, stack-full, Offer, Reports, counts, expects, Faithful}
 use Rattle.machine.specs.Reads.{Reads, refuses, reads}
-use Rattle.machine.specs.ComputedRun.{Machine, Outcome, topOf, run, start, expectedWord, wrongAt, reportOf, reading}
+use Rattle.machine.specs.ComputedRun.{Machine, Outcome, run, start, wrongAt, reportOf, reading}
 use Rattle.machine.proofs.Checked.{Passed, passed}
-use Rattle.machine.proofs.LrMachineLaws.{Config, conf, wrong, own-steps, path-depth}
+use Rattle.machine.proofs.LrMachineLaws.{Config, conf, wrong, path-depth}
 use Rattle.machine.proofs.Offers.{offered, offer-same}
 use Rattle.machine.proofs.Settles.{Settled, settles}
 use Rattle.machine.proofs.Areas.{Holds, Held, held, Leads, top-is, ends-at, atEnd, counted, held-start, follows}
@@ -42,7 +42,7 @@ same-reading : {r : Reading} {p : Report} {s l : List ℕ} → r .report ≡ p �
 same-reading ep es el = rw (← ep, ← es, ← el)
 
 module _ (t l st li : List ℕ) (a : ℕ) where
-  unrefused : refusalOf t l (length st) ≡ 0 → (o : Outcome) → run t l a (start st li) ≡ o → reading t l st li a ≡ record { report = reportOf t o; stack = o .final .stack; list = o .final .list }
+  pub unrefused : refusalOf t l (length st) ≡ 0 → (o : Outcome) → run t l a (start st li) ≡ o → reading t l st li a ≡ record { report = reportOf t o; stack = o .final .stack; list = o .final .list }
   unfolding reading
   unrefused e o eo = rw (eq-eqb (refusalOf t l (length st)) 0 e, eo)
 

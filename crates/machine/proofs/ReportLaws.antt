@@ -1,13 +1,13 @@
 -- The parts of a faithful reading's report, and that no two reports have the same numbers.
-use Prim.Native.Nat.{ℕ, suc, _+_, _≤_}
-use mathlib.Core.Path.{_≡_, refl, sym, ap, _∙_}
-use mathlib.Core.List.{List, [], _∷_, _++_}
-use lib.ListN.{length, take, drop, getD}
+use Prim.Native.Nat.{ℕ, _+_}
+use mathlib.Core.Path.{_≡_, refl, ap}
+use mathlib.Core.List.{List}
+use lib.ListN.{length, getD}
 use lib.Seq.{take-at}
 use native.Mathlib.Omega.{arith}
 pub use Rattle.machine.specs.Report.{Report, refused, ended, wrong-at, numbersOf, Reading, numberOf, stepsOf, depthOf, productionsOf, positionOf}
 pub use Rattle.machine.specs.Faithful.{Stops, accepted-here, wrong-here, no-steps, list-full, broken-here, stack-full, Reports, counts, expects, Faithful}
-use Rattle.machine.proofs.LrMachineLaws.{Config, conf, depth, listed, own-steps, one-deeper, path-last}
+use Rattle.machine.proofs.LrMachineLaws.{Config, conf, depth, listed, own-steps}
 
 -- the numbers tell the report: they are 1, 4 or 7 in number
 pub numbers-tell : (a b : Report) → numbersOf a ≡ numbersOf b → a ≡ b

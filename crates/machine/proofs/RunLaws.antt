@@ -7,7 +7,7 @@ use native.Mathlib.Numerals.{sub-one}
 use lib.ListN.{length, set}
 use borrow.Author.Tests.{lt-ltb, le-ltb, eq-eqb, ne-eqb}
 use Rattle.tables.specs.Layout.{cellOf, lengthOf, leftOf}
-use Rattle.machine.specs.ComputedRun.{Machine, ended, moved, accepted, popped, topOf, actionOf, shifted, reducedTo, reduced, movedBy, Outcome, after, run}
+use Rattle.machine.specs.ComputedRun.{Machine, ended, moved, accepted, popped, topOf, actionOf, shifted, reducedTo, reduced, movedBy, after, run}
 
 pub popped-step : (s : List ℕ) (d k : ℕ) → 0 < k → popped (set s (d - 1) 0) (d - 1) (k - 1) ≡ popped s d k
 unfolding popped

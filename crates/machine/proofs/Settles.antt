@@ -1,15 +1,15 @@
 -- From every configuration the LR machine comes to a stop within what a reading may use.
 use Prim.Native.Nat.{ℕ, zero, suc, _+_, _<_, _≤_}
-use mathlib.Core.Path.{_≡_, refl, sym, _∙_}
+use mathlib.Core.Path.{_≡_, refl}
 use mathlib.Core.Logic.{_≢_}
-use mathlib.Core.List.{List, [], _∷_, _++_}
+use mathlib.Core.List.{List, [], _∷_}
 use lib.ListN.{length, drop, length-append, drop-of-length-le}
 use native.Mathlib.Omega.{arith}
 use native.Mathlib.Decide.{decLt}
 use Rattle.sets.specs.Lists.{peek, rest}
 use Rattle.tables.specs.Layout.{cellOf, leftOf, lengthOf, reduction, accept}
 use Rattle.machine.specs.Faithful.{Allowed, Stops, accepted-here, wrong-here, no-steps, list-full, broken-here, stack-full}
-use Rattle.machine.proofs.LrMachineLaws.{Kind, kind, is-wrong, is-shift, is-accept, is-reduce, Config, conf, depth, listed, reduces, Step, Path, pops-all, no-next, Ends, accepts, wrong, broken, one-deeper}
+use Rattle.machine.proofs.LrMachineLaws.{Kind, kind, is-wrong, is-shift, is-accept, is-reduce, Config, conf, depth, reduces, Step, Path, pops-all, no-next, Ends, accepts, wrong, broken, one-deeper}
 
 -- the terminals still to be read
 abbrev unread : Config → ℕ

@@ -1,11 +1,11 @@
 -- 32, 33 and 34 come only where all steps are made, all places of the stack area are in use, all places of the list area are: for any table.
-use Prim.Native.Nat.{ℕ, suc, _+_, _≤_}
-use mathlib.Core.Path.{_≡_, refl, sym, ap, _∙_}
+use Prim.Native.Nat.{ℕ, _≤_}
+use mathlib.Core.Path.{_≡_, sym, ap, _∙_}
 use mathlib.Core.List.{List}
 use lib.ListN.{length}
 use native.Mathlib.Omega.{arith}
 use Rattle.machine.specs.Faithful.{Allowed}
-use Rattle.machine.proofs.LrMachineLaws.{Config, conf, depth, listed, own-steps, one-deeper, path-last}
+use Rattle.machine.proofs.LrMachineLaws.{Config, depth, listed, own-steps, one-deeper, path-last}
 use Rattle.machine.proofs.ReportLaws.{Reading, numberOf, stepsOf, depthOf, productionsOf, Stops, accepted-here, wrong-here, no-steps, list-full, broken-here, stack-full, Faithful, number-is, count-is, depth-is, productions-are}
 
 -- what an end says of what was allowed

@@ -5,7 +5,7 @@ use mathlib.Core.Bool.{Bool, true, false, not, cond, _&&_}
 use lib.ListN.{length, getD}
 use lib.Dec.{ltb, leb, eqb}
 use Rattle.sets.specs.Tests.{allBelow, between, unless}
-use Rattle.tables.specs.Layout.{states, terminals, nonterminals, productions, width, leftOf, lengthOf, cellOf, sizeOf}
+use Rattle.tables.specs.Layout.{states, terminals, nonterminals, productions, width, leftOf, lengthOf, accept, cellOf, sizeOf}
 
 -- 22: the limits of the paper, and Q at least 1
 unfoldable pub sizesOk : List ℕ → Bool
@@ -20,7 +20,7 @@ unfoldable pub terminalCellOk : List ℕ → ℕ → ℕ → Bool
 terminalCellOk t x v =
     cond (eqb v 0) true
     (cond (ltb v (states t)) (not (eqb x 0))
-    (cond (eqb v 4096) (eqb x 0)
+    (cond (eqb v accept) (eqb x 0)
     (cond (ltb v 1024) false (ltb (v - 1024) (productions t)))))
 
 -- a nonterminal's column has a state, or 0

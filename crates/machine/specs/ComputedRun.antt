@@ -7,7 +7,7 @@ use mathlib.Core.Bool.{cond}
 use lib.ListN.{length, getD, set}
 use lib.Dec.{ltb, eqb}
 use lib.Count.{ones}
-use Rattle.tables.specs.Layout.{terminals, leftOf, lengthOf, cellOf}
+use Rattle.tables.specs.Layout.{terminals, leftOf, lengthOf, accept, cellOf}
 use Rattle.machine.specs.Checks.{refusalOf}
 use Rattle.machine.specs.Report.{Report, refused, wrong-at, Reading}
 
@@ -63,11 +63,11 @@ reduced t r m =
     (ended 35 m))
     (ended 34 m)
 
--- the step that a cell other than 0 asks for: a shift below 1024, accept 4096, else a reduction by production a - 1024
+-- the step that a cell other than 0 asks for: a shift below 1024, accept, else a reduction by production a - 1024
 unfoldable pub movedBy : List ℕ → ℕ → Machine → Next
 movedBy t a m =
     cond (ltb a 1024) (shifted a m)
-    (cond (eqb a 4096)
+    (cond (eqb a accept)
     (accepted (record { stack = m .stack; list = m .list; depth = m .depth; listed = m .listed; position = m .position; steps = m .steps + 1 }))
     (reduced t (a - 1024) m))
 

@@ -1,5 +1,5 @@
 -- The LR machine over a table (003, 4.6): configurations, steps, paths, and how it ends. It knows no areas and no step limit.
-use Prim.Native.Nat.{ℕ, zero, suc, _+_, _<_, _≤_, max}
+use Prim.Native.Nat.{ℕ, zero, suc, _+_, _<_, max}
 use mathlib.Core.Path.{_≡_}
 use mathlib.Core.Logic.{_≢_}
 use mathlib.Core.List.{List, [], _∷_, _++_}

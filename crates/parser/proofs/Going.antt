@@ -1,14 +1,11 @@
 -- What the loop of `run` keeps, and the laws of its ways out, in the values that the code has.
 use mathlib.Core.Path.{_≡_, refl, sym, ap, subst, _∙_}
 use mathlib.Core.Bool.{false}
-use mathlib.Core.List.{List, _∷_, _++_}
-use Prim.Native.Nat.{ℕ, zero, suc, _+_, _-_, _*_, _<_, _≤_}
-use native.Mathlib.Nat.{not-suc-le-zero}
-use native.Mathlib.Numerals.{sub-one}
+use mathlib.Core.List.{List, _∷_}
+use Prim.Native.Nat.{ℕ, _+_, _-_, _*_, _<_, _≤_}
 use native.Mathlib.Omega.{arith}
 use lib.ListN.{length, getD}
 use lib.Dec.{eqb}
-use borrow.Author.Tests.{eq-eqb, ne-eqb}
 use Rattle.machine.specs.Report.{numbersOf}
 use Rattle.machine.specs.ComputedRun.{Machine, Next, actionOf, movedBy, Outcome, after, run, endedAt, wrongAt, reportOf}
 use Rattle.machine.proofs.RunLaws.{run-wrong, run-none, run-more}

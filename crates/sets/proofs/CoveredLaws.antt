@@ -1,10 +1,10 @@
 -- Laws of an area whose first places hold a list and zeros behind it.
-use mathlib.Core.Path.{_≡_, refl, sym, ap, _∙_}
+use mathlib.Core.Path.{_≡_, refl, sym, _∙_}
 use mathlib.Core.List.{List, [], _∷_, _++_, append-assoc}
 use Prim.Native.Nat.{ℕ, zero, suc, _+_, _-_, _<_, _≤_, max}
 use native.Mathlib.Omega.{arith}
 use native.Mathlib.Decide.{decLt}
-use lib.ListN.{length, drop, take, set, replicate, getD, length-append, length-replicate, length-drop}
+use lib.ListN.{length, drop, take, set, replicate, length-append, length-replicate, length-drop}
 use lib.Seq.{take-append-le, drop-at, set-at, drop-cons}
 use Rattle.sets.specs.Lists.{covered}
 
