@@ -76,9 +76,12 @@ enum {
 void sidumza_parse(const uint16_t *table, size_t table_len, const uint8_t *input, size_t input_len, uint16_t *stack,
                    size_t stack_len, uint16_t *list, size_t list_len, uint32_t step_limit, uint64_t out[7]);
 
-/* The lowest terminal of an expected set, 64 where the set is empty. To list a set, take its lowest
- * terminal and clear it (expected &= expected - 1) until nothing is left. */
+/* The lowest terminal of an expected set, 64 where the set is empty. */
 uint32_t sidumza_lowest(uint64_t expected);
+
+/* Lists the terminals of an expected set in `out`, ascending, with zeros after them: all 64 places are
+ * written. Returns how many there are. */
+size_t sidumza_terminals(uint64_t expected, uint8_t out[64]);
 
 #ifdef __cplusplus
 }

@@ -5,7 +5,7 @@ use mathlib.Core.List.{List, _++_}
 use lib.ListN.{length}
 use Rattle.grammar.specs.Card.{grammarOf}
 use Rattle.grammar.proofs.CardLaws.{right-short}
-use Rattle.machine.specs.Checks.{reading}
+use Rattle.machine.specs.ComputedRun.{reading}
 use Rattle.claim.specs.Claim.{Demand3}
 use Rattle.claim.proofs.Means.{Limits}
 use Rattle.claim.proofs.Delivered.{claim}

@@ -1,15 +1,16 @@
 -- The rows of the starred cards and lines follow from the definitions, by computing.
 use mathlib.Core.Path.{_≡_, refl}
 use mathlib.Core.List.{map}
+use lib.Count.{ones, onesIn}
 use Rattle.sets.specs.Bit.{bit}
 use Rattle.sets.specs.Tests.{allBelow, between}
 use Rattle.grammar.specs.Card
 use Rattle.grammar.specs.Card.{symbols, symbolOf, startOf, rightOf, isNonterminal, isSymbol, leftsOk, rightsOk, formFault}
 use Rattle.tables.specs.Layout
 use Rattle.tables.specs.Layout.{width, cellOf, sizeOf, build}
-use Rattle.machine.specs.Machine.{popped, topOf, actionOf, shifted, reducedTo, reduced, movedBy, after, run, start, expectedWord, expectedCount, expected, reportOf}
+use Rattle.machine.specs.ComputedRun.{popped, topOf, actionOf, shifted, reducedTo, reduced, movedBy, after, run, start, expectedWord, wrongAt, reportOf, reading}
 use Rattle.machine.specs.Checks
-use Rattle.machine.specs.Checks.{productionOk, terminalCellOk, cellOk, rowOk, productionsOk, cellsOk, terminalOk, inputOk, refusalOf, reading}
+use Rattle.machine.specs.Checks.{productionOk, terminalCellOk, cellOk, rowOk, productionsOk, cellsOk, terminalOk, inputOk, refusalOf}
 use Rattle.lalr.specs.Nonterminals.{nullables, productive, reachable, uselessNonterminal, firsts}
 use Rattle.lalr.specs.Lalr
 use Rattle.lalr.specs.Lalr.{facts, closure, advance, goto}
@@ -17,5 +18,5 @@ use Rattle.lalr.specs.Generator.{answerOf, tableOf}
 use Rattle.certificate.specs.Rows.{Row, rows, stated, computed}
 
 pub starred : map (λ (r : Row). computed (r .card) (r .lines)) rows ≡ map (λ (r : Row). stated (r .answer) (r .lines)) rows
-unfolding bit allBelow between Card.terminals Card.nonterminals Card.productions symbols Card.leftOf Card.lengthOf symbolOf startOf rightOf nullables productive reachable uselessNonterminal firsts Lalr.states facts closure advance goto Lalr.start tableOf build Layout.states Layout.terminals Layout.nonterminals Layout.productions width Layout.leftOf Layout.lengthOf cellOf sizeOf popped topOf actionOf shifted reducedTo reduced movedBy after run start expectedWord expectedCount expected reportOf Checks.sizesOk productionOk terminalCellOk cellOk rowOk productionsOk cellsOk terminalOk inputOk refusalOf reading Card.sizesOk isNonterminal isSymbol leftsOk rightsOk formFault answerOf
+unfolding bit allBelow between Card.terminals Card.nonterminals Card.productions symbols Card.leftOf Card.lengthOf symbolOf startOf rightOf nullables productive reachable uselessNonterminal firsts Lalr.states facts closure advance goto Lalr.start tableOf build Layout.states Layout.terminals Layout.nonterminals Layout.productions width Layout.leftOf Layout.lengthOf cellOf sizeOf popped topOf actionOf shifted reducedTo reduced movedBy after run start ones onesIn expectedWord wrongAt reportOf Checks.sizesOk productionOk terminalCellOk cellOk rowOk productionsOk cellsOk terminalOk inputOk refusalOf reading Card.sizesOk isNonterminal isSymbol leftsOk rightsOk formFault answerOf
 starred = refl

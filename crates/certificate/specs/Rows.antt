@@ -3,7 +3,8 @@ use mathlib.Core.List.{List, [], _∷_, _++_, map}
 use Prim.Native.Nat.{ℕ}
 use lib.ListN.{replicate}
 use Rattle.areas.specs.Areas.{tableSize, wordsSize, halvesSize}
-use Rattle.machine.specs.Checks.{reading}
+use Rattle.machine.specs.Report as report
+use Rattle.machine.specs.ComputedRun.{reading}
 use Rattle.lalr.specs.Generator as lalr
 
 -- Card A: 3 → 3 1, 3 → 2
@@ -161,7 +162,7 @@ tableIf (lalr.conflict q m v w) t = []
 abbrev pub readLine : List ℕ → Line → Line
 readLine t l =
     let r = reading t (l .input) (replicate (l .stack) 9) (replicate (l .list) 9) (l .limit) in
-    record { input = l .input; stack = l .stack; list = l .list; limit = l .limit; numbers = r .report; stack-left = r .stack; list-left = r .list }
+    record { input = l .input; stack = l .stack; list = l .list; limit = l .limit; numbers = report.numbersOf (r .report); stack-left = r .stack; list-left = r .list }
 
 abbrev pub computed : List ℕ → List Line → Result
 computed c lines =

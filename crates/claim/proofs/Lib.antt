@@ -4,4 +4,3 @@ pub mod Refusals
 pub mod Follow
 pub mod ClaimLaws
 pub mod Delivered
-pub mod Shifts

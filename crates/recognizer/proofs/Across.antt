@@ -4,7 +4,7 @@ use mathlib.Core.Logic.{_≢_}
 use mathlib.Core.List.{List}
 use Prim.Native.Nat.{ℕ}
 use native.Mathlib.Omega.{arith}
-use Rattle.machine.specs.Checks.{reading}
+use Rattle.machine.specs.ComputedRun.{reading}
 use Rattle.lalr.specs.Generator.{made, refused, uselessAt, conflict, generated}
 use Rattle.certificate.proofs.Demand.{across}
 use Rattle.generator.specs.Answer.{meaning, GeneratesAs}

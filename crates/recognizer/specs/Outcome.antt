@@ -4,7 +4,8 @@ use mathlib.Core.Path.{_≡_}
 use mathlib.Core.Logic.{_≢_}
 use mathlib.Core.List.{List}
 use Rattle.grammar.specs.Card.{grammarOf}
-use Rattle.machine.specs.Checks.{Reading, reading}
+use Rattle.machine.specs.Report.{Reading}
+use Rattle.machine.specs.ComputedRun.{reading}
 use Rattle.claim.specs.Claim.{Demand3}
 use Rattle.lalr.specs.Generator.{Generated, made, generated}
 use Rattle.generator.specs.Answer.{meaning}

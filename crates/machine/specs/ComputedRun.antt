@@ -1,11 +1,15 @@
+-- The reading as a function, which nobody has to believe: `reads-exactly` of proofs/ReadsLaws.antt proves it equal to the definition `Reads`.
 -- The reader's machine: a stack of states in a lent area, a list of productions in another, and a step limit.
 -- A step is the paper's move, the step limit its allowance, the position its place, the expected set its offer.
 use Prim.Native.Nat.{ℕ, zero, suc, _+_, _-_, _*_, _^_}
-use mathlib.Core.List.{List, [], _∷_, _++_}
+use mathlib.Core.List.{List}
 use mathlib.Core.Bool.{cond}
 use lib.ListN.{length, getD, set}
 use lib.Dec.{ltb, eqb}
-use Rattle.tables.specs.Layout.{terminals, leftOf, lengthOf, cellOf}
+use lib.Count.{ones}
+use Rattle.tables.specs.Layout.{terminals, leftOf, lengthOf, accept, cellOf}
+use Rattle.machine.specs.Checks.{refusalOf}
+use Rattle.machine.specs.Report.{Report, refused, wrong-at, Reading}
 
 -- both areas, how many places of each are in use, the position in the input and the steps made
 pub record Machine : Type 0 where
@@ -59,11 +63,11 @@ reduced t r m =
     (ended 35 m))
     (ended 34 m)
 
--- the step that a cell other than 0 asks for: a shift below 1024, accept 4096, else a reduction by production a - 1024
+-- the step that a cell other than 0 asks for: a shift below 1024, accept, else a reduction by production a - 1024
 unfoldable pub movedBy : List ℕ → ℕ → Machine → Next
 movedBy t a m =
     cond (ltb a 1024) (shifted a m)
-    (cond (eqb a 4096)
+    (cond (eqb a accept)
     (accepted (record { stack = m .stack; list = m .list; depth = m .depth; listed = m .listed; position = m .position; steps = m .steps + 1 }))
     (reduced t (a - 1024) m))
 
@@ -90,25 +94,26 @@ abbrev pub bitIf : ℕ → ℕ
 bitIf zero = 0
 bitIf (suc _) = 1
 
--- the terminals below k whose cell in row q is not 0: as the bits of a word, and how many
+-- the terminals below k whose cell in row q is not 0, as the bits of a word
 unfoldable pub expectedWord : List ℕ → ℕ → ℕ → ℕ
 expectedWord t q zero = 0
 expectedWord t q (suc k) = bitIf (cellOf t q k) * 2 ^ k + expectedWord t q k
 
-unfoldable pub expectedCount : List ℕ → ℕ → ℕ → ℕ
-expectedCount t q zero = 0
-expectedCount t q (suc k) = bitIf (cellOf t q k) + expectedCount t q k
+-- the report of an end other than 31
+abbrev pub endedAt : ℕ → Machine → Report
+endedAt n m = Report.ended n (m .steps) (m .depth) (m .listed)
 
--- each end carries the steps, the stack places in use and the productions listed
-abbrev pub counts : Machine → List ℕ
-counts m = m .steps ∷ m .depth ∷ m .listed ∷ []
+-- the report of 31, with the expected set of the top state
+unfoldable pub wrongAt : List ℕ → Machine → Report
+wrongAt t m =
+    let word = expectedWord t (topOf (m .stack) (m .depth)) (terminals t) in
+    wrong-at (m .steps) (m .depth) (m .listed) (m .position) word (ones word)
 
--- 31 carries also the position, and the expected set of the top state with its size
-unfoldable pub expected : List ℕ → Machine → List ℕ
-expected t m =
-    let q = topOf (m .stack) (m .depth) in
-    m .position ∷ expectedWord t q (terminals t) ∷ expectedCount t q (terminals t) ∷ []
+unfoldable pub reportOf : List ℕ → Outcome → Report
+reportOf t o = cond (eqb (o .number) 31) (wrongAt t (o .final)) (endedAt (o .number) (o .final))
 
-unfoldable pub reportOf : List ℕ → Outcome → List ℕ
-reportOf t o =
-    o .number ∷ counts (o .final) ++ cond (eqb (o .number) 31) (expected t (o .final)) []
+unfoldable pub reading : List ℕ → List ℕ → List ℕ → List ℕ → ℕ → Reading
+reading t l st li a =
+    cond (eqb (refusalOf t l (length st)) 0)
+    (record { report = reportOf t (run t l a (start st li)); stack = run t l a (start st li) .final .stack; list = run t l a (start st li) .final .list })
+    (record { report = refused (refusalOf t l (length st)); stack = st; list = li })

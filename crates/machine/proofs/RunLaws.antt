@@ -1,4 +1,4 @@
--- Laws of the machine's definitions: each case under the tests that lead to it.
+-- Laws of the computed run: each case under the tests that lead to it.
 use mathlib.Core.Path.{_≡_, refl, ap}
 use mathlib.Core.List.{List}
 use Prim.Native.Nat.{ℕ, zero, suc, _+_, _-_, _<_, _≤_}
@@ -7,7 +7,7 @@ use native.Mathlib.Numerals.{sub-one}
 use lib.ListN.{length, set}
 use borrow.Author.Tests.{lt-ltb, le-ltb, eq-eqb, ne-eqb}
 use Rattle.tables.specs.Layout.{cellOf, lengthOf, leftOf}
-use Rattle.machine.specs.Machine.{Machine, ended, moved, accepted, popped, topOf, shifted, reducedTo, reduced, movedBy}
+use Rattle.machine.specs.ComputedRun.{Machine, ended, moved, accepted, popped, topOf, actionOf, shifted, reducedTo, reduced, movedBy, after, run}
 
 pub popped-step : (s : List ℕ) (d k : ℕ) → 0 < k → popped (set s (d - 1) 0) (d - 1) (k - 1) ≡ popped s d k
 unfolding popped
@@ -60,3 +60,29 @@ module _ (t : List ℕ) (a : ℕ) (m : Machine) where
   pub moved-reduce : 1024 ≤ a → (a ≡ 4096 → ⊥) → movedBy t a m ≡ reduced t (a - 1024) m
   unfolding movedBy
   moved-reduce h e = rw (le-ltb a 1024 h, ne-eqb a 4096 e)
+
+module _ (q : ℕ) (m : Machine) where
+  pub shifted-goes : m .depth < length (m .stack)
+      → shifted q m ≡ moved (record { stack = set (m .stack) (m .depth) q; list = m .list; depth = m .depth + 1; listed = m .listed; position = m .position + 1; steps = m .steps + 1 })
+  unfolding shifted
+  shifted-goes h = rw (lt-ltb (m .depth) (length (m .stack)) h)
+
+  pub shifted-full : length (m .stack) ≤ m .depth → shifted q m ≡ ended 33 m
+  unfolding shifted
+  shifted-full h = rw (le-ltb (m .depth) (length (m .stack)) h)
+
+-- the run, by the test of its first action
+module _ (t l : List ℕ) (m : Machine) where
+  pub run-wrong : (k : ℕ) → actionOf t l m ≡ 0 → run t l k m ≡ record { number = 31; final = m }
+  unfolding run
+  run-wrong zero e = rw (eq-eqb (actionOf t l m) 0 e)
+  run-wrong (suc k) e = rw (eq-eqb (actionOf t l m) 0 e)
+
+  pub run-none : (k : ℕ) → k ≡ 0 → (actionOf t l m ≡ 0 → ⊥) → run t l k m ≡ record { number = 32; final = m }
+  unfolding run
+  run-none k z e = rw (z, ne-eqb (actionOf t l m) 0 e)
+
+  pub run-more : (k : ℕ) → 0 < k → (actionOf t l m ≡ 0 → ⊥) → run t l k m ≡ after (run t l (k - 1)) (movedBy t (actionOf t l m) m)
+  unfolding run
+  run-more zero h e = absurd (not-suc-le-zero h)
+  run-more (suc k) h e = rw (ne-eqb (actionOf t l m) 0 e, sub-one (suc k))
