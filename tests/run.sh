@@ -11,6 +11,6 @@ command -v bison >/dev/null || { apt-get install -y bison || { apt-get update &&
 sh tests/reader/run.sh
 MAKETABLE=target/bin/maketable sh tests/generator/run.sh
 python3 tests/scripts/scripts.py target/bin/maketable
-# the script, and the examples' tables: one as it is printed, one as its bare numbers
+# the script, and the examples' tables
 ./maketable <examples/a.card | cmp - examples/a.table
-echo "1 1 1 0 1 0" | ./maketable | sed 's/^row [0-9]* ://; s/^[a-z]*//' | xargs | cmp - examples/empty.table
+echo "1 1 1 0 1 0" | ./maketable | cmp - examples/empty.table
