@@ -37,8 +37,10 @@ bad() {
     fi
 }
 
-"$page" "$here/a.table" <"$here/a.lines" >"$tmp/out" || failed=1
-same a.lines "$here/a.expected"
+for example in a json; do
+    "$page" "$here/$example.table" <"$here/$example.lines" >"$tmp/out" || failed=1
+    same $example.lines "$here/$example.expected"
+done
 
 says "2 1" "stopped 32: steps 4, stack 2, listed 2" "$here/a.table" 4
 says "2 1" "stopped 33: steps 2, stack 2, listed 1" "$here/a.table" 100 2

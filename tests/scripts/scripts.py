@@ -1,10 +1,10 @@
 #!/usr/bin/env python3
 """Tests of the scripts at the root, each in a copy of its folder.
 
-    scripts.py MAKETABLE    the program that rt built, target/bin/maketable
+    scripts.py MAKETABLE EXPLAIN    the programs: target/bin/maketable, target/cargo/release/explain
 
-A small `rt` on PATH stands for the kit: it proves nothing, takes as long as a case says and copies the program given.
-At the end each of FAULTS, an edit of tools/program.sh, must make its case fail."""
+A small `rt` on PATH stands for the kit: it proves nothing, takes as long as a case says and copies the program given; a
+`cargo` beside it does the same. At the end each of FAULTS, an edit of tools/program.sh, must make its case fail."""
 
 import os
 import pathlib
@@ -33,32 +33,41 @@ cp "$FAKE/program" "target/bin/.$2" && mv "target/bin/.$2" "target/bin/$2"
 echo "end $*" >>"$FAKE/calls"
 """
 
+CARGO = """#!/bin/sh
+echo "cargo $1 $SIDUMZA_LIB" >>"$FAKE/calls"
+. "$FAKE/cargo-act"
+mkdir -p "$CARGO_TARGET_DIR/release"
+cp "$FAKE/explainer" "$CARGO_TARGET_DIR/release/explain"
+"""
+
 
 class Room:
     """A copy of the scripts with three crates; the folder's name has a blank."""
 
-    def __init__(self, program, edit=None):
+    def __init__(self, program, explainer, edit=None):
         self.base = pathlib.Path(tempfile.mkdtemp(prefix="scripts."))
         self.base.chmod(0o755)
         self.root = self.base / "a copy"
         self.fake = self.base / "fake"
-        for folder in ["crates/sets/src", "crates/grammar/src", "crates/maketable/src"]:
+        for folder in ["crates/sets/src", "crates/grammar/src", "crates/maketable/src", "bindings/rust/src"]:
             (self.root / folder).mkdir(parents=True)
-        shutil.copy(ROOT / "maketable", self.root)
+        for script in ["maketable", "explain"]:
+            shutil.copy(ROOT / script, self.root)
         shutil.copytree(ROOT / "tools", self.root / "tools", ignore=shutil.ignore_patterns("target"))
         if edit:
             path = self.root / "tools/program.sh"
             text = path.read_text()
             assert text.count(edit[0]) == 1, f"{text.count(edit[0])} times in program.sh: {edit[0]}"
             path.write_text(text.replace(*edit))
-        (self.root / "crates.txt").write_text("# three\nsets:\ngrammar: sets\nmaketable: grammar sets io libc\nother: sets\n")
+        (self.root / "crates.txt").write_text("# three\nsets:\ngrammar: sets\nmaketable: grammar sets io libc\ngenerator_c: grammar\n")
         self.source = self.root / "crates/grammar/src/lib.rt"
         self.source.write_text("// a source\n")
         self.fake.mkdir()
-        (self.fake / "rt").write_text(RT)
-        (self.fake / "rt").chmod(0o755)
-        (self.fake / "act").write_text("")
+        for name, text in [("rt", RT), ("cargo", CARGO), ("act", ""), ("cargo-act", "")]:
+            (self.fake / name).write_text(text)
+            (self.fake / name).chmod(0o755)
         shutil.copy(program, self.fake / "program")
+        shutil.copy(explainer, self.fake / "explainer")
         self.env = dict(os.environ, FAKE=str(self.fake), PATH=f"{self.fake}:{os.environ['PATH']}")
         self.started = []
 
@@ -326,8 +335,66 @@ def unwritable(room):
         (room.root / "target").chmod(0o755)
 
 
+EXPLAINED_A = b"""T 3, N 1, P 2, L 3
+end marker 0, terminals 1 to 2; start 3
+production 0 : 3 -> 3 1
+production 1 : 3 -> 2
+table 4 3 1 2
+The maker makes a table: 4 states, 3 terminals, 1 nonterminal, 2 productions; 24 numbers in all.
+"""
+
+
+def explains(room):
+    """explain: built where it is missing or older than its sources, and then run; failing calls are told."""
+    (room.root / "card").write_bytes(CARD_A)
+    status, out, err = room.shell("./explain <card")
+    same("the first call", (status, out), (0, EXPLAINED_A))
+    says(err, "explain is missing: building", "proved 3 of 3", "built")
+    built = ["begin check generator_c", "end check generator_c", "begin staticlib generator_c", "end staticlib generator_c",
+             f"cargo build {room.root}/target/staticlib"]
+    same("its calls", room.calls(), built)
+    same("the second call", room.shell("./explain <card"), (0, EXPLAINED_A, ""))
+    for path in ["crates/grammar/src/lib.rt", "tools/explain/src/lib.rs", "tools/explain/Cargo.toml", "bindings/rust/src/lib.rs"]:
+        before = len(room.calls())
+        time.sleep(0.02)
+        (room.root / path).write_text("changed\n")
+        status, out, err = room.shell("./explain <card")
+        same(f"{path} changed", (status, out, room.calls()[before:]), (0, EXPLAINED_A, built))
+        same("then nothing", room.shell("./explain <card"), (0, EXPLAINED_A, ""))
+    status, out, err = room.shell("echo 3 1 2 | ./explain")
+    same("a refusal", (status, out.split(b"\n")[0], err), (1, b"refused 4", ""))
+    status, out, err = room.shell("echo 3 x 2 | ./explain")
+    same("not a card", (status, out.split(b"\n")[0], err), (1, b"not a card", ""))
+    for what, command, words in [
+        ("an argument", "./explain card", "no argument"),
+        ("a folder read", "./explain <.", "read: Is a directory"),
+        ("standard input closed", "./explain <&-", "read: standard input is closed"),
+        ("standard output closed", "./explain <card >&-", "write: standard output is closed"),
+        ("a full disk", "./explain <card >/dev/full", "write: No space left on device"),
+    ]:
+        status, out, err = room.shell(command)
+        same(what, (status, out), (2, b""))
+        says(err, "explain: ", words)
+    same("standard error closed", room.shell("./explain <card 2>&-"), (0, EXPLAINED_A, ""))
+    room.source.touch()
+    for name, act, words in [("cargo-act", "echo 'error: could not compile' >&2; exit 101", "error: could not compile"),
+                             ("act", "echo 'rt: grammar NOT PROVED (exit 1, 0 s)'; exit 1", "grammar NOT PROVED")]:
+        (room.fake / name).write_text(act)
+        status, out, err = room.shell("./explain <card")
+        same("a failed build", (status, out), (2, b""))
+        says(err, words, "could not be built", "target/explain.log")
+    (room.fake / "cargo").unlink()
+    bare = room.base / "bare"
+    bare.mkdir()
+    for tool in ["sh", "find", "head", "dirname", "readlink", "cat", "mkdir", "awk", "flock", "touch", "rm", "tail"]:
+        (bare / tool).symlink_to(shutil.which(tool))
+    status, out, err = room.shell("./explain <card", dict(room.env, PATH=f"{room.fake}:{bare}"))
+    same("no cargo", (status, out), (2, b""))
+    says(err, "no cargo on PATH")
+
+
 CASES = [answers, calls, failing_calls, builds, changed_meanwhile, two_at_once, killed, script_killed, fails, no_kit,
-         unwritable]
+         unwritable, explains]
 
 FAULTS = [
     ("status 0 for refusals", answers, ("exit 1 ;; esac", "exit 0 ;; esac")),
@@ -363,17 +430,19 @@ FAULTS = [
     ("the log not kept", fails, ("printf '%s\\n' \"$line\" >&8", "true")),
     ("rt taken to be there", no_kit, ("command -v rt >/dev/null ||", "true ||")),
     ("flock taken to be there", no_kit, ("command -v flock >/dev/null ||", "true ||")),
+    ("Rust sources not looked at", explains, ("-o -name '*.rs' ", "")),
+    ("Cargo.toml not looked at", explains, ("-o -name Cargo.toml ", "")),
     ("an unwritable folder without words", unwritable, ("mkdir -p \"$root/target\" && true", "mkdir -p \"$root/target\" && :")),
 ]
 
 
 def main():
-    if len(sys.argv) != 2:
+    if len(sys.argv) != 3:
         sys.exit(__doc__)
-    program = pathlib.Path(sys.argv[1]).resolve()
+    programs = [pathlib.Path(path).resolve() for path in sys.argv[1:]]
     bad = 0
     for case in CASES:
-        room = Room(program)
+        room = Room(*programs)
         try:
             case(room)
         except (AssertionError, subprocess.TimeoutExpired) as error:
@@ -383,7 +452,7 @@ def main():
             room.close()
     missed = 0
     for name, case, edit in FAULTS if not bad else []:
-        room = Room(program, edit)
+        room = Room(*programs, edit)
         try:
             case(room)
             missed += 1
