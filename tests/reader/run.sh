@@ -73,6 +73,7 @@ if [ -z "$failed" ]; then
     part "tables read back" python3 tests/table/table.py
     part "self-check of the differential test" target/cargo/release/reader_test self-check
     part "differential test" target/cargo/release/reader_test
+    part "lengths that are enough" target/cargo/release/reader_test enough
 fi
 [ -z "$failed" ] || { echo "reader: FAILED: ${failed#, }"; exit 1; }
 echo "reader: all passed"
