@@ -4,7 +4,7 @@
     scripts.py MAKETABLE EXPLAIN    the programs: target/bin/maketable, target/cargo/release/explain
 
 A small `rt` on PATH stands for the kit: it proves nothing, takes as long as a case says and copies the program given; a
-`cargo` beside it does the same. At the end each of FAULTS, an edit of tools/program.sh, must make its case fail."""
+`cargo` beside it does the same. At the end each of FAULTS, an edit of a file of tools/, must make its case fail."""
 
 import os
 import pathlib
@@ -55,10 +55,11 @@ class Room:
             shutil.copy(ROOT / script, self.root)
         shutil.copytree(ROOT / "tools", self.root / "tools", ignore=shutil.ignore_patterns("target"))
         if edit:
-            path = self.root / "tools/program.sh"
+            old, new, *where = edit
+            path = self.root / "tools" / (where or ["program.sh"])[0]
             text = path.read_text()
-            assert text.count(edit[0]) == 1, f"{text.count(edit[0])} times in program.sh: {edit[0]}"
-            path.write_text(text.replace(*edit))
+            assert text.count(old) == 1, f"{text.count(old)} times in {path.name}: {old}"
+            path.write_text(text.replace(old, new))
         (self.root / "crates.txt").write_text("# three\nsets:\ngrammar: sets\nmaketable: grammar sets io libc\ngenerator_c: grammar\n")
         self.source = self.root / "crates/grammar/src/lib.rt"
         self.source.write_text("// a source\n")
@@ -393,8 +394,35 @@ def explains(room):
     says(err, "no cargo on PATH")
 
 
+def layers(room):
+    """tools/layers.py: what stands above each crate, with rt's seconds."""
+    said = "".join(f"rt: {name} proved ({took} s)\n" for name, took in
+                   [("sets", 5), ("grammar", 7), ("maketable", 20), ("generator_c", 100)])
+    (room.root / "said").write_text("fn sets::has: proved\n" + said + "rt: ok, 4 crates proved\n")
+    same("the rows", room.shell("python3 tools/layers.py <said"), (0, b"""| crate | its own seconds | proved again | seconds of all |
+|---|---|---|---|
+| sets | 5 | 4 | 132 |
+| grammar | 7 | 3 | 127 |
+| maketable | 20 | 1 | 20 |
+| generator_c | 100 | 1 | 100 |
+""", ""))
+    for what, command, words in [
+        ("a crate without seconds", "grep -v grammar said | python3 tools/layers.py", "no seconds of grammar"),
+        ("unchanged crates", "sed 's/(7 s)/(unchanged since it was last proved)/' said | python3 tools/layers.py", "no seconds of grammar"),
+        ("nothing said", "python3 tools/layers.py </dev/null", "no seconds of sets, grammar, maketable, generator_c"),
+        ("an argument", "python3 tools/layers.py said", "no argument"),
+        ("standard input closed", "python3 tools/layers.py <&-", "Bad file descriptor"),
+        ("standard output closed", "python3 tools/layers.py <said >&-", "Bad file descriptor"),
+        ("a full disk", "python3 tools/layers.py <said >/dev/full", "No space left on device"),
+        ("no crates.txt", "rm crates.txt; python3 tools/layers.py <said", "No such file"),
+    ]:
+        status, out, err = room.shell(command)
+        same(what, (status, out), (2, b""))
+        says(err, "layers: ", words)
+
+
 CASES = [answers, calls, failing_calls, builds, changed_meanwhile, two_at_once, killed, script_killed, fails, no_kit,
-         unwritable, explains]
+         unwritable, explains, layers]
 
 FAULTS = [
     ("status 0 for refusals", answers, ("exit 1 ;; esac", "exit 0 ;; esac")),
@@ -430,6 +458,8 @@ FAULTS = [
     ("the log not kept", fails, ("printf '%s\\n' \"$line\" >&8", "true")),
     ("rt taken to be there", no_kit, ("command -v rt >/dev/null ||", "true ||")),
     ("flock taken to be there", no_kit, ("command -v flock >/dev/null ||", "true ||")),
+    ("only what stands directly above", layers, ("        found |= more\n", "        return found | more\n", "layers.py")),
+    ("a crate without seconds passed over", layers, ("if missing or not crates:", "if not crates:", "layers.py")),
     ("Rust sources not looked at", explains, ("-o -name '*.rs' ", "")),
     ("Cargo.toml not looked at", explains, ("-o -name Cargo.toml ", "")),
     ("an unwritable folder without words", unwritable, ("mkdir -p \"$root/target\" && true", "mkdir -p \"$root/target\" && :")),
