@@ -65,6 +65,18 @@ enum {
  * step_limit         how many steps may be made.
  * out                the answer, seven numbers; all are written.
  *
+ * What to lend: there is at most a shift for each terminal, a place of the list for each reduction, and one acceptance.
+ * - So input_len + list_len + 1 steps are always enough: with that step limit 32 never comes, and the list's length
+ *   bounds the steps and the time of a call, whatever the table is.
+ * - A stack of input_len + list_len + 1 places is always enough, and one of input_len + 1 where no production is empty
+ *   (only a shift and an empty production's reduction push more than they pop).
+ * - How many reductions an input takes is the grammar's: 34 tells that the list is too short. By JSON's table (examples/)
+ *   an input of 9 terminals takes 10.
+ * What a call costs: it checks the whole table first, each time: 0.2 microseconds for the 504 numbers of JSON's table,
+ * 1 for 256 rows of few cells, 4 to 5 for the largest table, of 32004 numbers; then some 3 nanoseconds a step
+ * (bench/reader/calls.c on an AMD EPYC). For an input of 9 terminals and 20 steps by JSON's table the check is three
+ * quarters of the time.
+ *
  * Every content of the table and the input, and every length, is answered: nothing is asked of them.
  * To the caller is left:
  * - each pointer is aligned and valid for its length: table and input for reading, stack and list for
