@@ -2,22 +2,15 @@
 use mathlib.Core.Path.{_≡_, refl, sym, ap, _∙_, subst, subst₂}
 use mathlib.Core.Logic.{_⊎_, inl, inr, ⊎-elim}
 use Prim.Native.Nat.{ℕ, zero, suc, _+_, _-_, _≤_, _<_, min}
-use native.Mathlib.Decide.{ℕ-discrete}
 use native.Mathlib.Omega.{arith}
 use lib.Bits.{bitOr}
 use Rattle.sets.specs.Bit.{Has}
 use Rattle.sets.proofs.HasLaws.{lt-or-ge, has-or, or-has-l, or-has-r}
 use Rattle.transitions.specs.Places.{transitionLimit}
+use Rattle.transitions.proofs.WriteLaws.{eq-or}
 use Rattle.digraph.specs.Completion.{Reaches, Join}
 use Rattle.digraph.specs.Completion.Reaches.{here, step}
 use Rattle.digraph.specs.Walk.{Inv, Covered, Segment, None, Frame, Scan, Ended, Met}
-
-pub eq-or : (a b : ℕ) → (a ≡ b) ⊎ (a ≡ b → ⊥)
-eq-or a b = go (ℕ-discrete a b)
-  where
-    go : Dec (a ≡ b) → (a ≡ b) ⊎ (a ≡ b → ⊥)
-    go (yes h) = inl h
-    go (no h) = inr h
 
 -- below d + 1 is below d, or is d
 pub below-suc : {p d : ℕ} → p < d + 1 → (p < d) ⊎ (p ≡ d)
