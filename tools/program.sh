@@ -94,7 +94,7 @@ built() { # FILE CRATE PATH..
     fi
     why=$(stale "$file" "$@")
     if [ -n "$why" ]; then
-        if ! { rm -f "$root/target/$name.built" && true >"$began" && true >"$log"; } 2>/dev/null; then
+        if ! { rm -f "$root/target/$name.built" && touch "$began" && true >"$log"; } 2>/dev/null; then
             trouble "$file is $why, and it cannot be built: the folder $root/target cannot be written"
         fi
         say "$file is $why: building it; from nothing this takes minutes"

@@ -5,4 +5,4 @@ set -eu
 cd "$(dirname "$0")/../.."
 export SIDUMZA_LIB="${SIDUMZA_LIB:-$PWD/target/staticlib}" CARGO_TARGET_DIR="$PWD/target/tests"
 cargo build --quiet --offline --release --manifest-path tests/explain/Cargo.toml
-target/tests/release/explain-tests
+target/tests/release/explain-tests tests/bison/data/*.txt

@@ -223,17 +223,34 @@ def changed_meanwhile(room):
     same("the third call", room.run(), (0, TABLE_A, ""))
 
 
+# rt goes on when the case says so
+UNTIL_GO = 'echo >"$FAKE/asleep"; while [ ! -e "$FAKE/go" ]; do sleep 0.05; done'
+
+
+def start_behind(room):
+    """Starts a call while a build is under way; lets the build go on once the call waits for it, or builds, or ends."""
+    said = room.base / "said"
+    with open(said, "wb") as err:
+        ran = room.start(stderr=err)
+    begun = len(room.calls())
+    wait_for("the second call waits", lambda: b"waiting" in said.read_bytes() or len(room.calls()) > begun
+             or ran.poll() is not None)
+    (room.fake / "go").touch()
+    out, _ = ran.communicate(timeout=60)
+    return ran.returncode, out, said.read_text()
+
+
 def two_at_once(room):
     """Two first builds do not meet: one waits and then finds the program."""
-    room.act("sleep 0.5")
-    one, two = room.start(), room.start()
-    said = []
-    for ran in (one, two):
-        out, err = ran.communicate(timeout=60)
-        same("both answer", (ran.returncode, out), (0, TABLE_A))
-        said.append(err.decode())
+    room.act(UNTIL_GO)
+    one = room.start()
+    wait_for("the build is under way", (room.fake / "asleep").exists)
+    status, out, err = start_behind(room)
+    same("the second", (status, out), (0, TABLE_A))
+    says(err, "waiting")
+    out, err = one.communicate(timeout=60)
+    same("the first", (one.returncode, out), (0, TABLE_A))
     same("rt's calls", room.calls(), ["begin check maketable", "end check maketable"])
-    assert sum("waiting" in err for err in said) == 1, f"one waits and says so: {said}"
 
 
 def killed(room):
@@ -253,13 +270,13 @@ def killed(room):
 
 def script_killed(room):
     """Where the script alone is killed its build goes on: the next call waits for it."""
-    room.act('echo >"$FAKE/asleep"; sleep 1')
+    room.act(UNTIL_GO)
     one = room.start()
     wait_for("the build is under way", (room.fake / "asleep").exists)
     os.kill(one.pid, signal.SIGKILL)
     one.wait()
     room.act("")
-    status, out, err = room.run()
+    status, out, err = start_behind(room)
     same("the next call", (status, out), (0, TABLE_A))
     says(err, "waiting", "built")
     same("rt's calls", room.calls(), ["begin check maketable", "end check maketable"] * 2)

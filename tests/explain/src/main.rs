@@ -1,6 +1,6 @@
 //! The tool explain against the reference: each line that it prints for a card, on random cards and texts.
 //!
-//!     explain-tests           compares, then requires that each planted fault is found
+//!     explain-tests FILE..    compares, on stored cards of the files too, then requires that each planted fault is found
 //!
 //! SEED and CARDS set the seed and the number of cards.
 
@@ -121,6 +121,20 @@ fn compare(run: Explain, seed: u64, cards: u64) -> (BTreeMap<String, u64>, Optio
     (seen, None)
 }
 
+/// The cards of files of tests/bison/data; how many there are.
+fn stored(paths: impl Iterator<Item = String>) -> Result<u64, String> {
+    let mut cards = 0;
+    for path in paths {
+        let text = std::fs::read_to_string(&path).map_err(|error| format!("{path}: {error}"))?;
+        for card in text.lines().filter_map(|line| line.strip_prefix("card ")) {
+            let (out, status) = tool(card.as_bytes(), &table_of);
+            expected::check(card.as_bytes(), &out, status).map_err(|what| format!("{path}: {card}: {what}"))?;
+            cards += 1;
+        }
+    }
+    Ok(cards)
+}
+
 fn setting(name: &str, default: u64) -> u64 {
     std::env::var(name).map_or(default, |text| text.parse().expect("a number"))
 }
@@ -133,6 +147,13 @@ fn main() -> ExitCode {
         return ExitCode::FAILURE;
     }
     println!("seed {seed}, {cards} cards: {seen:?}");
+    match stored(std::env::args().skip(1)) {
+        Ok(cards) => println!("{cards} stored cards"),
+        Err(what) => {
+            println!("FAILED: {what}");
+            return ExitCode::FAILURE;
+        }
+    }
     let kinds = "not a card,table,4,5,6,7,8,9,10,11,12,13";
     let unseen: Vec<&str> = kinds.split(',').filter(|&kind| !seen.contains_key(kind)).collect();
     if !unseen.is_empty() {

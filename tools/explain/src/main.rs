@@ -15,5 +15,8 @@ fn main() -> ExitCode {
         eprintln!("explain: write: {error}");
         return ExitCode::from(2);
     }
+    if told.status == 2 {
+        eprintln!("explain: it does not find what the maker finds");
+    }
     ExitCode::from(told.status)
 }
