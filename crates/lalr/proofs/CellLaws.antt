@@ -251,6 +251,3 @@ module _ (g : Grammar) (f : Formed g) (pr : AllProductive g) (rows : List (List 
 
     pub action-cell : (q m v : ℕ) → Short (acts q m) → Action g next q m v → cell (acts q m) ≡ v
     action-cell q m v s a = mem-cell s (actions-all q m v a)
-
-    pub action-positive : (q m v : ℕ) → q < length rows → Action g next q m v → 1 ≤ v
-    action-positive q m v h a = between-mem (ascending q m h) (actions-all q m v a)

@@ -24,7 +24,8 @@ use Rattle.lr.specs.Cells.{Table}
 use Rattle.lr.specs.Relations.{Lookback}
 use Rattle.lr.proofs.Firsts.{first-yields}
 use Rattle.lr.proofs.ItemLaws.{AllProductive, all-productive}
-use Rattle.lr.proofs.Paths.{merged-exact}
+use Rattle.lr.proofs.Paths.{merged-exact, state-automaton}
+use Rattle.lr.proofs.CellLaws.{cell-reduces}
 use Rattle.lr.proofs.OneTable.{one-table, numbers-small, width-is}
 use Rattle.lr.proofs.ShortWay
 use Rattle.lalr.specs.Nonterminals.{nullables, productive, reachable, firsts, inFirst}
@@ -98,7 +99,7 @@ module _ (c : List ℕ) (m : cardAnswer c ≡ made) where
   card-table = table-is c mk
 
   pub only-table : (l : List ℕ) {count : ℕ} {next : ℕ → ℕ → ℕ} → Table (grammarOf c) count next l → tableOf c ≡ l
-  only-table l t = one-table (grammarOf c) (the-formed c mk) (the-productive c mk) productions-few (mk .few) card-table t
+  only-table l t = one-table (grammarOf c) (the-formed c mk) card-table t
 
   -- it fits its area
   pub table-fits : length (tableOf c) ≤ tableSize
@@ -120,9 +121,10 @@ module _ (c : List ℕ) (m : cardAnswer c ≡ made) where
 
   -- the reductions, in the words of merging by core
   pub card-reduce : (γ : List ℕ) (r a : ℕ) → Items.Viable (grammarOf c) γ → r < productions c → a < terminals c
-      → (cellOf (tableOf c) (walk (Lalr.goes (grammarOf c) (states (grammarOf c) .rows)) 0 γ) a ≡ 1024 + r) ↔ Items.Merged (grammarOf c) γ r (length (grammarOf c .right r)) a
+      → (cellOf (tableOf c) (walk (Lalr.goes (grammarOf c) (states (grammarOf c) .rows)) 0 γ) a ≡ layout.reduction r) ↔ Items.Merged (grammarOf c) γ r (length (grammarOf c .right r)) a
   card-reduce γ r a v h k =
       let next : ℕ → ℕ → ℕ = Lalr.goes (grammarOf c) (states (grammarOf c) .rows) in
-      let t = card-table .terminals (walk next 0 γ) a (card-table .states .below v) k .reduce r h in
+      let low : next (walk next 0 γ) a < 1024 = omega (arith, state-automaton (grammarOf c) (the-formed c mk) (the-productive c mk) (length (states (grammarOf c) .rows)) next (card-table .states) .next-below {x = a} (card-table .states .below v), mk .few) in
+      let t = cell-reduces (grammarOf c) productions-few low (card-table .terminals (walk next 0 γ) a (card-table .states .below v) k) h in
       let u = merged-exact (grammarOf c) (the-formed c mk) (the-productive c mk) (length (states (grammarOf c) .rows)) next (card-table .states) v in
       (λ e. u .0 (t .0 e), λ b. t .1 (u .1 b))

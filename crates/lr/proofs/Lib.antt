@@ -8,6 +8,7 @@ pub mod Unique
 pub mod RelationLaws
 pub mod ErrorPosition
 pub mod Least
+pub mod CellLaws
 pub mod OneTable
 pub mod CanonicalSets
 pub mod ShortWay
