@@ -12,11 +12,13 @@ use Rattle.lr.specs.Items
 use Rattle.lr.specs.Items.{walk, Lookahead}
 use Rattle.lr.specs.Cells.{Action, Cell}
 use Rattle.lr.proofs.ItemLaws.{Origin, added, inner, origin, added-end}
+use Rattle.lr.proofs.Automaton.{sits-lookahead, lookahead-sits}
+use Rattle.lr.proofs.Paths.{Has}
 use Rattle.tables.specs.Conflicts.{Single, Conflict}
 use Rattle.cells.specs.Actions.{Act, IsCell}
 use Rattle.bridge.specs.Actions.{Acts}
 use Rattle.bridge.specs.Premises.{Stated, Followed}
-use Rattle.bridge.proofs.Numbering.{numbered}
+use Rattle.bridge.proofs.Numbering.{card-formed, card-productive, automaton, numbered}
 use Rattle.bridge.proofs.FollowLaws.{look-is}
 
 module _ {c : List ℕ} {n : ℕ} {next : ℕ → ℕ → ℕ} (s : Stated c n next) where
@@ -28,11 +30,11 @@ module _ {c : List ℕ} {n : ℕ} {next : ℕ → ℕ → ℕ} (s : Stated c n n
 
   pub accept-is : (q m : ℕ) → Lookahead (grammarOf c) next q (productions c) m ↔ ((m ≡ 0) × (next 0 (terminals c) ≡ q))
   accept-is q m = (
-    λ l. (
-      added-end (grammarOf c) refl (l .item),
-      sym (ap (walk next 0) (added-path (origin (grammarOf c) (l .item)) refl ∙ take-length (rightOf c (productions c)) ∙ right-added c)) ∙ l .leads,
-    ),
-    λ t. record { path = terminals c ∷ []; leads = t .1; item = rw (t .0, ap length (right-added c)) (Items.goto Items.start (right-added c)) },
+    λ l. (let p = lookahead-sits (grammarOf c) (card-formed s) (card-productive s) n (Has (grammarOf c) next) next (automaton s) l in (
+      added-end (grammarOf c) refl (p .item),
+      sym (ap (walk next 0) (added-path (origin (grammarOf c) (p .item)) refl ∙ take-length (rightOf c (productions c)) ∙ right-added c)) ∙ p .leads,
+    )),
+    λ t. sits-lookahead (grammarOf c) (record { path = terminals c ∷ []; leads = t .1; item = rw (t .0, ap length (right-added c)) (Items.goto Items.start (right-added c)) }),
   )
 
   start-moves : next 0 (terminals c) ≢ 0

@@ -12,7 +12,7 @@ use Rattle.grammar.specs.Grammar.{Grammar, Formed, Symbols}
 use Rattle.lr.specs.Items
 use Rattle.lr.proofs.Firsts.{first-yields}
 use Rattle.lr.proofs.ItemLaws.{AllProductive, after-symbols, lookahead-terminal}
-use Rattle.lr.proofs.Automaton.{Automaton, walk, walk-snoc}
+use Rattle.lr.proofs.Automaton.{Automaton, Sits, walk, walk-snoc}
 use Rattle.sets.specs.Lists.{each}
 use Rattle.sets.specs.Bit.{bit}
 use Rattle.lalr.specs.Sets.{when}
@@ -44,22 +44,16 @@ module _ (g : Grammar) (f : Formed g) (pr : AllProductive g) (rows : List (List 
   abbrev fol : ℕ → List ℕ
   fol k = following g (nullables g) (firsts g) rows (k / T / I) (k / T % I) (k % T)
 
-  -- on some path to state q the item has the lookahead a
-  pub record Sits (q r d a : ℕ) : Type 0 where
-    pub path : List ℕ
-    pub leads : walk next 0 path ≡ q
-    pub item : Items.Canonical g path r d a
-
   fact-parts : (q k a : ℕ) → k < I → a < T → (fact g q k a / T / I ≡ q) × (fact g q k a / T % I ≡ k) × (fact g q k a % T ≡ a)
   fact-parts q k a hk ha =
       let e : fact g q k a / T ≡ q * I + k = digits-div (q * I + k) ha in
       (ap (λ (x : ℕ). x / I) e ∙ digits-div q hk, ap (λ (x : ℕ). x % I) e ∙ digits-mod q hk, digits-mod (q * I + k) ha)
 
   abbrev At : ℕ → Type 0
-  At k = (q r d a : ℕ) → Valid g r d → a < T → k ≡ fact g q (first g r + d) a → Sits q r d a
+  At k = (q r d a : ℕ) → Valid g r d → a < T → k ≡ fact g q (first g r + d) a → Sits g next q r d a
 
   -- a fact that is shown at its own place is shown
-  at-fact : (q r d a : ℕ) → Valid g r d → a < T → Sits q r d a → At (fact g q (first g r + d) a)
+  at-fact : (q r d a : ℕ) → Valid g r d → a < T → Sits g next q r d a → At (fact g q (first g r + d) a)
   at-fact q r d a v h s q′ r′ d′ a′ v′ h′ e =
       let t = fact-parts q (first g r + d) a (item-below g v) h in
       let u = fact-parts q′ (first g r′ + d′) a′ (item-below g v′) h′ in
@@ -106,10 +100,10 @@ module _ (g : Grammar) (f : Formed g) (pr : AllProductive g) (rows : List (List 
       let e2 : k / T / I * I + k / T % I ≡ k / T = div-add-mod' (k / T) I in
       sym (ap (λ (x : ℕ). x * T + k % T) e2 ∙ e)
 
-  sits-goto : {q r d a x : ℕ} {β : List ℕ} → Sits q r d a → drop d (g.right r) ≡ x ∷ β → Sits (next q x) r (suc d) a
+  sits-goto : {q r d a x : ℕ} {β : List ℕ} → Sits g next q r d a → drop d (g.right r) ≡ x ∷ β → Sits g next (next q x) r (suc d) a
   sits-goto {x = x} s e = record { path = s .path ++ x ∷ []; leads = walk-snoc next 0 (s .path) x ∙ ap (λ (p : ℕ). next p x) (s .leads); item = Items.goto (s .item) e }
 
-  sits-close : {q r d a s b : ℕ} {β : List ℕ} → Sits q r d a → drop d (g.right r) ≡ g.left s ∷ β → s < g.productions → b < T → lookahead β a b ≡ true → Sits q s 0 b
+  sits-close : {q r d a s b : ℕ} {β : List ℕ} → Sits g next q r d a → drop d (g.right r) ≡ g.left s ∷ β → s < g.productions → b < T → lookahead β a b ≡ true → Sits g next q s 0 b
   sits-close {a = a} {b = b} t e h hb k = record { path = t .path; leads = t .leads; item = Items.close (t .item) e h (in-sound g f pr a b hb (after-symbols g f pr (t .item) e) k) }
 
   keeps : (k : ℕ) → At k → All At (fol k)
@@ -121,7 +115,7 @@ module _ (g : Grammar) (f : Formed g) (pr : AllProductive g) (rows : List (List 
       small : k % T < T
       small = mod-lt k f.end-marker
 
-      sits : (r d : ℕ) → Valid g r d → k / T % I ≡ first g r + d → Sits (k / T / I) r d (k % T)
+      sits : (r d : ℕ) → Valid g r d → k / T % I ≡ first g r + d → Sits g next (k / T / I) r d (k % T)
       sits r d v e = p (k / T / I) r d (k % T) v small (whole k ∙ ap (λ (i : ℕ). fact g (k / T / I) i (k % T)) e)
 
       go : (x : ℕ) (β : List ℕ) → Rest g (suc g.productions) (k / T % I) x β → At (fact g (next (k / T / I) x) (suc (k / T % I)) (k % T))
@@ -144,7 +138,7 @@ module _ (g : Grammar) (f : Formed g) (pr : AllProductive g) (rows : List (List 
   first-at : At (fact g 0 (first g g.productions) 0)
   first-at = rw plus-zero at (at-fact 0 g.productions 0 0 added-valid f.end-marker (record { path = []; leads = refl; item = Items.start }))
 
-  pub facts-only : (q r d a : ℕ) → Valid g r d → a < T → bit (facts g rows) (fact g q (first g r + d) a) ≡ true → Sits q r d a
+  pub facts-only : (q r d a : ℕ) → Valid g r d → a < T → bit (facts g rows) (fact g q (first g r + d) a) ≡ true → Sits g next q r d a
   unfolding facts
   facts-only q r d a v ha h =
       reach-only fol At keeps size (2 ^ fact g 0 (first g g.productions) 0)

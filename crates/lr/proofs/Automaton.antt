@@ -1,6 +1,6 @@
 -- The numbered states of the LR(0) automaton, the LALR(1) cells over them, and that they are the table of the theory.
 use Prim.Native.Nat.{ℕ, suc, _<_}
-use mathlib.Core.Path.{_≡_, refl, sym}
+use mathlib.Core.Path.{_≡_, refl, sym, _∙_}
 use mathlib.Core.Logic.{_↔_, _≢_}
 use mathlib.Core.List.{List, [], _∷_, _++_}
 use lib.ListN.{length, drop}
@@ -22,6 +22,25 @@ walk-append next q [] δ = refl
 walk-append next q (y ∷ γ) δ = walk-append next (next q y) γ δ
 
 module _ (g : Grammar) where
+  -- on some path to state q the item has the lookahead a
+  pub record Sits (next : ℕ → ℕ → ℕ) (q r d a : ℕ) : Type 0 where
+    pub path : List ℕ
+    pub leads : walk next 0 path ≡ q
+    pub item : Items.Canonical g path r d a
+
+  -- a set is merged with itself
+  pub merged-self : {γ : List ℕ} {r d a : ℕ} → Items.Canonical g γ r d a → Items.Merged g γ r d a
+  merged-self {γ} i = record { path = γ; same = record { to = λ r d j. j; from = λ r d j. j }; item = i }
+
+  pub merged-item : {γ : List ℕ} {r d a : ℕ} → Items.Merged g γ r d a → Items.Item g γ r d
+  merged-item m = m .same .from _ _ (Items.with-lookahead (m .item))
+
+  pub merged-viable : {γ : List ℕ} {r d a : ℕ} → Items.Merged g γ r d a → Items.Viable g γ
+  merged-viable m = Items.by-item (merged-item m)
+
+  pub sits-lookahead : {next : ℕ → ℕ → ℕ} {q r a : ℕ} → Sits next q r (length (g.right r)) a → Lookahead g next q r a
+  sits-lookahead s = record { path = s .path; leads = s .leads; merged = merged-self (s .item) }
+
   pub data CoreClosure (kernel : ℕ → ℕ → Type 0) : ℕ → ℕ → Type 0 where
     given : {r d : ℕ} → kernel r d → CoreClosure kernel r d
     opened : {r d s : ℕ} {β : List ℕ} → CoreClosure kernel r d → drop d (g.right r) ≡ g.left s ∷ β → s < g.productions → CoreClosure kernel s 0
@@ -106,26 +125,22 @@ module _ (g : Grammar) where
     pub same-core : {γ γ′ : List ℕ} → Items.Viable g γ → Items.Viable g γ′ → walk next 0 γ ≡ walk next 0 γ′ → Items.SameCore g γ γ′
     same-core v v′ e = record { to = λ r d i. has-item v′ (rw e at (item-has i)); from = λ r d i. has-item v (rw (← e) at (item-has i)) }
 
-    merged-viable : {γ : List ℕ} {r d a : ℕ} → Items.Merged g γ r d a → Items.Viable g γ
-    merged-viable m = Items.by-item (m .same .from _ _ (Items.with-lookahead (m .item)))
-
-    merged-has : {γ : List ℕ} {r d a : ℕ} → Items.Merged g γ r d a → has (walk next 0 γ) r d
-    merged-has m = item-has (m .same .from _ _ (Items.with-lookahead (m .item)))
-
     -- merging by core is merging by state
-    pub merged-lookahead : {γ : List ℕ} {r a : ℕ} → Items.Merged g γ r (length (g.right r)) a → Lookahead g next (walk next 0 γ) r a
-    merged-lookahead m = record { path = m .path; leads = sym (same-state (merged-viable m) (Items.by-item (Items.with-lookahead (m .item))) (m .same)); item = m .item }
+    pub lookahead-sits : {q r a : ℕ} → Lookahead g next q r a → Sits next q r (length (g.right r)) a
+    lookahead-sits h =
+        let m = h .merged in
+        record { path = m .path; leads = sym (same-state (merged-viable m) (Items.by-item (Items.with-lookahead (m .item))) (m .same)) ∙ h .leads; item = m .item }
 
     pub lookahead-merged : {γ : List ℕ} {r a : ℕ} → Items.Viable g γ → Lookahead g next (walk next 0 γ) r a → Items.Merged g γ r (length (g.right r)) a
-    lookahead-merged v h = record { path = h .path; same = same-core v (Items.by-item (Items.with-lookahead (h .item))) (sym (h .leads)); item = h .item }
+    lookahead-merged v h = let s = lookahead-sits h in record { path = s .path; same = same-core v (Items.by-item (Items.with-lookahead (s .item))) (sym (s .leads)); item = s .item }
 
     -- the cells over the numbered states are the table of actions
     pub table : (cell : ℕ → ℕ → Act) → Cells count has next cell → Runs.Table g (λ γ m. cell (walk next 0 γ) m)
     table cell c =
         record {
           shifts = λ a h. shifts-of a h;
-          reduces = λ h m. c.reduces (viable-below (merged-viable m)) .1 (h, merged-lookahead m);
-          accepts = λ m. c.accepts (viable-below (merged-viable m)) .1 (refl, merged-has m);
+          reduces = λ {γ} h m. c.reduces (viable-below (merged-viable m)) .1 (h, record { path = γ; leads = refl; merged = m });
+          accepts = λ m. c.accepts (viable-below (merged-viable m)) .1 (refl, item-has (merged-item m));
           shift-from = λ v e. shift-from v e;
           reduce-from = λ v e. let t = c.reduces (viable-below v) .0 e in (t .0, lookahead-merged v (t .1));
           accept-from = λ v e. let t = c.accepts (viable-below v) .0 e in (t .0, ended (has-item v (t .1)));
@@ -144,4 +159,4 @@ module _ (g : Grammar) where
         shift-from v e = let t = c.shifts (viable-below v) .0 e in (t .0, went v (au.next-some (viable-below v) .0 (t .1)))
 
         ended : {γ : List ℕ} → Items.Item g γ g.productions 1 → Items.Merged g γ g.productions 1 0
-        ended {γ} (Items.with-lookahead i) = record { path = γ; same = record { to = λ r d j. j; from = λ r d j. j }; item = rw (added-end g refl i) at i }
+        ended {γ} (Items.with-lookahead i) = merged-self (rw (added-end g refl i) at i)

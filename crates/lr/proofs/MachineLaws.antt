@@ -14,6 +14,7 @@ use Rattle.lr.proofs.Firsts.{first-begins, first-follows}
 use Rattle.sets.specs.Lists.{peek}
 use Rattle.lr.proofs.Runs.{Act, shift, reduce, accept, wrong}
 use Rattle.lr.proofs.ItemLaws.{drop-next, Origin, added, inner, origin, Extends, AllProductive, begins}
+use Rattle.lr.proofs.Automaton.{merged-self, merged-item}
 use Rattle.grammar.proofs.Derive.{derives-yields, rightmost-yields, yields-rightmost, rightmost-derives}
 
 -- no step follows this action
@@ -38,15 +39,6 @@ module _ (g : Grammar) where
     stopped : (u : List ℕ) → Extends g u → ((z : List ℕ) → peek z ≡ peek x → Sentence g (u ++ z) → ⊥) → Stopped x (u ++ x)
 
 module _ (g : Grammar) (f : Formed g) (act : List ℕ → ℕ → Act) (tab : Runs.Table g act) where
-  same-self : (γ : List ℕ) → Items.SameCore g γ γ
-  same-self γ = record { to = λ r d i. i; from = λ r d i. i }
-
-  pub merged-self : {γ : List ℕ} {r d a : ℕ} → Items.Canonical g γ r d a → Items.Merged g γ r d a
-  merged-self {γ} i = record { path = γ; same = same-self γ; item = i }
-
-  merged-item : {γ : List ℕ} {r d a : ℕ} → Items.Merged g γ r d a → Items.Item g γ r d
-  merged-item m = m .same .from _ _ (Items.with-lookahead (m .item))
-
   pub after-viable : {γ : List ℕ} {x : ℕ} → Runs.After g γ x → Items.Viable g (γ ++ x ∷ [])
   after-viable (Runs.dot-before (Items.with-lookahead i) e) = Items.by-item (Items.with-lookahead (Items.goto i e))
 
@@ -55,7 +47,7 @@ module _ (g : Grammar) (f : Formed g) (act : List ℕ → ℕ → Act) (tab : Ru
     reducible : (α : List ℕ) → r < g.productions → Runs.After g α (g.left r) → Reducible r (α ++ g.right r)
 
   pub reduction : {γ : List ℕ} {m r : ℕ} → Items.Viable g γ → act γ m ≡ reduce r → Reducible r γ
-  reduction {γ} {m} {r} v e = let h = tab.reduce-from v e in go (h .0) (merged-item (h .1))
+  reduction {γ} {m} {r} v e = let h = tab.reduce-from v e in go (h .0) (merged-item g (h .1))
     where
       go₂ : {δ : List ℕ} → r < g.productions → Origin g r (length (g.right r)) δ → Reducible r δ
       go₂ h (added e) = absurd (omega arith)
@@ -137,14 +129,14 @@ module _ (g : Grammar) (f : Formed g) (act : List ℕ → ℕ → Act) (tab : Ru
   over (nonterminal {α} {p} {u} {q} {v} s h x z) {γ} {r} {d} {a} i e y l =
       let t = over x (Items.close i e h (first-of v z y l)) refl (v ++ y) refl in
       let t′ = over z (Items.goto i e) (drop-next d (g.right r) e) y l in
-      let c = tab.reduces h (merged-self (rw zero-add at (t .1))) in
+      let c = tab.reduces h (merged-self g (rw zero-add at (t .1))) in
       let n : suc d + length α ≡ d + suc (length α) = omega arith in (
         rw append-assoc (run-append (t .0) (Runs.reduced γ s c refl (rw append-assoc at (t′ .0)))),
         rw (append-assoc, n) at (t′ .1),
       )
 
   pub complete : {p w : List ℕ} → Yields g (g.terminals ∷ []) p w → Runs.Run g act [] w p (g.terminals ∷ []) [] × (act (g.terminals ∷ []) 0 ≡ accept)
-  complete y = let t = over y Items.start f.added [] refl in (rw append-nil at (t .0), tab.accepts (merged-self (t .1)))
+  complete y = let t = over y Items.start f.added [] refl in (rw append-nil at (t .0), tab.accepts (merged-self g (t .1)))
 
   start-viable : Items.Viable g []
   start-viable = Items.by-item (Items.with-lookahead Items.start)
@@ -174,7 +166,7 @@ module _ (g : Grammar) (f : Formed g) (act : List ℕ → ℕ → Act) (tab : Ru
       whole : {u : List ℕ} → Symbols g.terminals (u ++ x) → Items.Viable g γ → Yields g γ p u → Accepted g (u ++ x) p
       whole {u} n v y =
           let a = tab.accept-from v e in
-          let eγ = accepted-stack (merged-item (a .1)) in
+          let eγ = accepted-stack (merged-item g (a .1)) in
           let ex = none-left (symbols-back u n) (a .0) in
           let y′ : Yields g (g.terminals ∷ []) p (u ++ x) = rw (ex, append-nil) (rw eγ at y) in
           let d : Rightmost g (g.terminals ∷ []) (reverse p) (u ++ x) = simp append-nil at (yields-rightmost g [] [] none y′) in

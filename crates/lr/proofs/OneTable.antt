@@ -8,7 +8,7 @@ use native.Mathlib.Decide.{ℕ-discrete, decLt}
 use Rattle.grammar.specs.Grammar.{Grammar, Formed}
 use Rattle.lr.specs.Items
 use Rattle.lr.proofs.ItemLaws.{AllProductive}
-use Rattle.lr.proofs.Automaton.{Lookahead, walk}
+use Rattle.lr.proofs.Automaton.{Lookahead, walk, merged-viable}
 use Rattle.lr.specs.States.{States}
 use Rattle.lr.specs.Cells.{Action, shifts, reduces, accepts, Cell, Table}
 use Rattle.tables.specs.Layout as layout
@@ -28,7 +28,7 @@ module _ (g : Grammar) {count : ℕ} {next : ℕ → ℕ → ℕ} (st : States g
       (record { path = γ; viable = v; leads = refl; leads′ = refl })
 
   lookahead-same : {q r m : ℕ} → Lookahead g next q r m → Lookahead g next′ q r m
-  lookahead-same a = record { path = a .path; leads = sym (walk-same (Items.by-item (Items.with-lookahead (a .item)))) ∙ a .leads; item = a .item }
+  lookahead-same a = record { path = a .path; leads = sym (walk-same (merged-viable g (a .merged))) ∙ a .leads; merged = a .merged }
 
   pub action-same : {q m v : ℕ} → q < count → Action g next q m v → Action g next′ q m v
   action-same {q} {m} h (shifts k nz) = let e : next q m ≡ next′ q m = next-same g count next st count′ next′ st′ q m h in rw e (shifts k (rw e at nz))

@@ -12,7 +12,7 @@ use Rattle.grammar.proofs.Yield.{Yields}
 use Rattle.lr.specs.Items
 use Rattle.lr.proofs.Firsts.{first-begins, first-follows}
 use Rattle.lr.proofs.ItemLaws.{AllProductive, all-made, after-symbols, snoc-last, not-snoc}
-use Rattle.lr.proofs.Automaton.{Automaton, CoreClosure, given, opened, CoreAdvanced, advanced, Goes, goes, CoreStart, core-start, walk, walk-snoc, Lookahead}
+use Rattle.lr.proofs.Automaton.{Automaton, CoreClosure, given, opened, CoreAdvanced, advanced, Goes, goes, CoreStart, core-start, walk, walk-snoc, Lookahead, Sits, sits-lookahead, lookahead-sits, lookahead-merged}
 use Rattle.lr.specs.States.{States}
 
 pub symbols-at : (d : ℕ) {n x : ℕ} {l β : List ℕ} → Symbols n l → drop d l ≡ x ∷ β → x < n
@@ -135,13 +135,6 @@ module _ (g : Grammar) (f : Formed g) (pr : AllProductive g) where
         back : CoreClosure g (CoreAdvanced g (Has g next (walk next 0 γ)) x) r d → Has g next (walk next 0 (γ ++ x ∷ [])) r d
         back c = of-item (closure-items moved-item (closure-map down c))
 
-    -- `Lookahead` is `Merged`: the lookaheads that the numbered state has are those of the states with the same core
-    pub merged-exact : {γ : List ℕ} {r m : ℕ} → Items.Viable g γ → Lookahead g next (walk next 0 γ) r m ↔ Items.Merged g γ r (length (g.right r)) m
-    merged-exact v = (
-      λ a. record { path = a .path; same = st .merged v (Items.by-item (Items.with-lookahead (a .item))) .0 (sym (a .leads)); item = a .item },
-      λ h. record { path = h .path; leads = sym (st .merged v (Items.by-item (Items.with-lookahead (h .item))) .1 (h .same)); item = h .item },
-    )
-
     -- its production is the grammar's, or the added one
     pub item-production : {q r d : ℕ} → Has g next q r d → r ≤ g.productions
     item-production h = go (h .item)
@@ -166,3 +159,11 @@ module _ (g : Grammar) (f : Formed g) (pr : AllProductive g) where
           distinct = λ {q} {q′} h h′ e. (let t = st .every q h in let t′ = st .every q′ h′ in
               sym (t .2) ∙ st .merged (t .1) (t′ .1) .1 (record { to = λ r d i. on-path (t′ .1) (rw (← t′ .2) at (e r d .0 (rw (t .2) at (of-item i)))); from = λ r d i. on-path (t .1) (rw (← t .2) at (e r d .1 (rw (t′ .2) at (of-item i)))) }) ∙ t′ .2);
         }
+
+    -- the lookaheads of a state by paths: those that the complete item has on some path to it
+    pub lookahead-exact : {q r a : ℕ} → Lookahead g next q r a ↔ Sits g next q r (length (g.right r)) a
+    lookahead-exact = (λ h. lookahead-sits g f pr count (Has g next) next state-automaton h, λ s. sits-lookahead g s)
+
+    -- and those of the merged set of any path to it
+    pub merged-exact : {γ : List ℕ} {r m : ℕ} → Items.Viable g γ → Lookahead g next (walk next 0 γ) r m ↔ Items.Merged g γ r (length (g.right r)) m
+    merged-exact {γ} v = (λ a. lookahead-merged g f pr count (Has g next) next state-automaton v a, λ h. record { path = γ; leads = refl; merged = h })

@@ -13,7 +13,7 @@ use Rattle.lr.proofs.Runs
 use Rattle.lr.specs.Items
 use Rattle.lr.proofs.Firsts.{FirstYields, yields, empty, first-yields, first-begins, first-follows}
 use Rattle.lr.proofs.ItemLaws.{AllProductive, all-made, after-symbols, drop-next, take-next, snoc-last, not-snoc}
-use Rattle.lr.proofs.Automaton.{Automaton, Goes, goes, Lookahead, walk, walk-snoc, walk-append, has-of, item-of}
+use Rattle.lr.proofs.Automaton.{Automaton, Goes, goes, Lookahead, walk, walk-snoc, walk-append, has-of, item-of, sits-lookahead, lookahead-sits}
 
 module _ (g : Grammar) (next : ℕ → ℕ → ℕ) where
   -- the terminals read next from a state, behind nullable nonterminals
@@ -95,7 +95,7 @@ module _ (g : Grammar) (f : Formed g) (pr : AllProductive g) (count : ℕ) (has 
   source (Items.goto i e) = source-next e (source i)
 
   pub lookahead-lookback : {q s b : ℕ} → s < g.productions → Lookahead g next q s b → LookbackOf g next q s b
-  lookahead-lookback {q} {s} {b} h k = go (source (k .item)) (k .leads)
+  lookahead-lookback {q} {s} {b} h k = let t = lookahead-sits g f pr count has next au k in go (source (t .item)) (t .leads)
     where
       go : {γ : List ℕ} → Source s (length (g.right s)) b γ → walk next 0 γ ≡ q → LookbackOf g next q s b
       go (added e _) l = absurd (omega arith)
@@ -177,4 +177,4 @@ module _ (g : Grammar) (f : Formed g) (pr : AllProductive g) (count : ℕ) (has 
         go : {p : ℕ} → Seen p (g.left s) b → walk next p (g.right s) ≡ q → Lookahead g next q s b
         go (seen {γ} l i e fi) l′ =
             let t = goto-all (g.right s) [] (Items.close i e h fi) (sym (append-nil (g.right s))) in
-            record { path = γ ++ g.right s; leads = walk-append next 0 γ (g.right s) ∙ ap (λ (p : ℕ). walk next p (g.right s)) l ∙ l′; item = rw zero-add at (t .0) }
+            sits-lookahead g (record { path = γ ++ g.right s; leads = walk-append next 0 γ (g.right s) ∙ ap (λ (p : ℕ). walk next p (g.right s)) l ∙ l′; item = rw zero-add at (t .0) })

@@ -44,8 +44,8 @@ module _ (g : Grammar) where
     pub same : SameCore γ path
     pub item : Canonical path r d a
 
-  -- the lookaheads of a complete item in state q: those that it has on some path to q. For numbered states this is Merged (`merged-exact` in Paths.antt of proofs/)
+  -- the lookaheads of the complete item of production r in state q: those in the merged set of a path that leads to q
   pub record Lookahead (next : ℕ → ℕ → ℕ) (q r a : ℕ) : Type 0 where
     pub path : List ℕ
     pub leads : walk next 0 path ≡ q
-    pub item : Canonical path r (length (g.right r)) a
+    pub merged : Merged path r (length (g.right r)) a
