@@ -8,6 +8,7 @@ use lib.Seq.{take-length}
 use native.Mathlib.Omega.{arith}
 use Rattle.grammar.specs.Card.{terminals, productions, rightOf, grammarOf}
 use Rattle.grammar.proofs.CardLaws.{right-added}
+use Rattle.lr.proofs.Canonical.{Canonical, in-core, start-viable}
 use Rattle.lr.specs.Items
 use Rattle.lr.specs.Items.{walk, Lookahead}
 use Rattle.lr.specs.Cells.{Action, Cell}
@@ -34,11 +35,11 @@ module _ {c : List ℕ} {n : ℕ} {next : ℕ → ℕ → ℕ} (s : Stated c n n
       added-end (grammarOf c) refl (p .item),
       sym (ap (walk next 0) (added-path (origin (grammarOf c) (p .item)) refl ∙ take-length (rightOf c (productions c)) ∙ right-added c)) ∙ p .leads,
     )),
-    λ t. sits-lookahead (grammarOf c) (record { path = terminals c ∷ []; leads = t .1; item = rw (t .0, ap length (right-added c)) (Items.goto Items.start (right-added c)) }),
+    λ t. sits-lookahead (grammarOf c) (record { path = terminals c ∷ []; leads = t .1; item = rw (t .0, ap length (right-added c)) (Canonical.goto Canonical.start (right-added c)) }),
   )
 
   start-moves : next 0 (terminals c) ≢ 0
-  start-moves = s .states .moved (Items.by-item (Items.with-lookahead Items.start)) (terminals c) .1 (Items.by-item (Items.with-lookahead (Items.goto Items.start (right-added c))))
+  start-moves = s .states .moved (start-viable (grammarOf c)) (terminals c) .1 (Items.by-item (in-core (Canonical.goto Canonical.start (right-added c))))
 
 module _ {c w : List ℕ} {n k e : ℕ} {next : ℕ → ℕ → ℕ} {z : List ℕ} (h : Followed c w n k e next z) where
   to : {q m v : ℕ} → Acts c w z k next q m v → Action (grammarOf c) next q m v

@@ -7,6 +7,7 @@ use lib.ListN.{length, drop, take, take-append-drop}
 use native.Mathlib.Omega.{arith}
 use Rattle.grammar.specs.Grammar.{Grammar, Formed, Symbols, Sentence, Rightmost}
 use Rattle.lr.proofs.Runs
+use Rattle.lr.proofs.Canonical.{start-viable}
 use Rattle.lr.specs.Items
 use Rattle.lr.proofs.ItemLaws.{AllProductive}
 use Rattle.lr.proofs.MachineLaws.{accepted, refused}
@@ -58,7 +59,7 @@ pub data Ended (g : Grammar) (l : List ℕ) (i : ℕ) (p : List ℕ) : ℕ → T
 module _ (g : Grammar) (f : Formed g) (pr : AllProductive g) (li : Limits g) (t : List ℕ) (tm : TableMeans g t) where
   pub ended : {l : List ℕ} → Symbols g.terminals l → {k sr lr n e steps : ℕ} {qs x out : List ℕ} → Steps t steps (conf (0 ∷ []) l []) (conf qs x out) → Stops t k sr lr qs x out n e
       → (i : ℕ) → i + length out ≡ steps → Ended g l i out n
-  ended {l} m {n = n} {steps = steps} {qs = qs} {x = x} {out = out} mv w i hi = go (follows g f pr li t tm mv [] l [] refl (Items.by-item (Items.with-lookahead Items.start)) m) refl
+  ended {l} m {n = n} {steps = steps} {qs = qs} {x = x} {out = out} mv w i hi = go (follows g f pr li t tm mv [] l [] refl (start-viable g) m) refl
     where
       finish : {γ qs x out : List ℕ} → Runs.Run g (act g f pr li t tm) [] l out γ x → Items.Viable g γ → Symbols g.terminals x → qs ≡ on g f pr li t tm γ → i + length x ≡ length l
           → {k sr lr n e : ℕ} → Stops t k sr lr qs x out n e → Ended g l i out n

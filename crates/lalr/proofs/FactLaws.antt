@@ -9,6 +9,7 @@ use lib.Pow.{pow-lt}
 use lib.Arith.{digits-div, digits-mod, digits-lt}
 use lib.ListN.{length, drop}
 use Rattle.grammar.specs.Grammar.{Grammar, Formed, Symbols}
+use Rattle.lr.proofs.Canonical.{Canonical}
 use Rattle.lr.specs.Items
 use Rattle.lr.proofs.Firsts.{first-yields}
 use Rattle.lr.proofs.ItemLaws.{AllProductive, after-symbols, lookahead-terminal}
@@ -101,10 +102,10 @@ module _ (g : Grammar) (f : Formed g) (pr : AllProductive g) (rows : List (List 
       sym (ap (λ (x : ℕ). x * T + k % T) e2 ∙ e)
 
   sits-goto : {q r d a x : ℕ} {β : List ℕ} → Sits g next q r d a → drop d (g.right r) ≡ x ∷ β → Sits g next (next q x) r (suc d) a
-  sits-goto {x = x} s e = record { path = s .path ++ x ∷ []; leads = walk-snoc next 0 (s .path) x ∙ ap (λ (p : ℕ). next p x) (s .leads); item = Items.goto (s .item) e }
+  sits-goto {x = x} s e = record { path = s .path ++ x ∷ []; leads = walk-snoc next 0 (s .path) x ∙ ap (λ (p : ℕ). next p x) (s .leads); item = Canonical.goto (s .item) e }
 
   sits-close : {q r d a s b : ℕ} {β : List ℕ} → Sits g next q r d a → drop d (g.right r) ≡ g.left s ∷ β → s < g.productions → b < T → lookahead β a b ≡ true → Sits g next q s 0 b
-  sits-close {a = a} {b = b} t e h hb k = record { path = t .path; leads = t .leads; item = Items.close (t .item) e h (in-sound g f pr a b hb (after-symbols g f pr (t .item) e) k) }
+  sits-close {a = a} {b = b} t e h hb k = record { path = t .path; leads = t .leads; item = Canonical.close (t .item) e h (in-sound g f pr a b hb (after-symbols g f pr (t .item) e) k) }
 
   keeps : (k : ℕ) → At k → All At (fol k)
   keeps k p =
@@ -136,7 +137,7 @@ module _ (g : Grammar) (f : Formed g) (pr : AllProductive g) (rows : List (List 
   plus-zero = omega arith
 
   first-at : At (fact g 0 (first g g.productions) 0)
-  first-at = rw plus-zero at (at-fact 0 g.productions 0 0 added-valid f.end-marker (record { path = []; leads = refl; item = Items.start }))
+  first-at = rw plus-zero at (at-fact 0 g.productions 0 0 added-valid f.end-marker (record { path = []; leads = refl; item = Canonical.start }))
 
   pub facts-only : (q r d a : ℕ) → Valid g r d → a < T → bit (facts g rows) (fact g q (first g r + d) a) ≡ true → Sits g next q r d a
   unfolding facts
@@ -181,13 +182,13 @@ module _ (g : Grammar) (f : Formed g) (pr : AllProductive g) (rows : List (List 
   unfolding facts
   start-there = reach-start fol size (2 ^ fact g 0 (first g g.productions) 0) (fact g 0 (first g g.productions) 0) (has-power (fact g 0 (first g g.productions) 0))
 
-  pub facts-all : {γ : List ℕ} {r d a : ℕ} → Items.Canonical g γ r d a → Placed (walk next 0 γ) r d a
-  facts-all Items.start = record { state = au.some-state; item = added-valid; terminal = f.end-marker; there = rw plus-zero start-there }
-  facts-all (Items.close {γ} {β} {r} {d} {a} {s} {b} i e h fi) =
+  pub facts-all : {γ : List ℕ} {r d a : ℕ} → Canonical g γ r d a → Placed (walk next 0 γ) r d a
+  facts-all Canonical.start = record { state = au.some-state; item = added-valid; terminal = f.end-marker; there = rw plus-zero start-there }
+  facts-all (Canonical.close {γ} {β} {r} {d} {a} {s} {b} i e h fi) =
       let p = facts-all i in
-      let hb : b < T = lookahead-terminal g f (Items.close i e h fi) in
+      let hb : b < T = lookahead-terminal g f (Canonical.close i e h fi) in
       record { state = p .state; item = valid-production g h; terminal = hb; there = follow p (mem-closure (walk next 0 γ) (first g r + d) a (rest-at g (p .item) ∙ e) s b h refl hb (in-all g f pr a b hb β (first-yields g fi))) }
-  facts-all (Items.goto {γ} {β} {r} {d} {a} {x} i e) =
+  facts-all (Canonical.goto {γ} {β} {r} {d} {a} {x} i e) =
       let p = facts-all i in
       let n : suc (first g r + d) ≡ first g r + suc d = omega arith in
       rw (walk-snoc next 0 γ x)

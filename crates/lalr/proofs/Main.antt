@@ -18,7 +18,8 @@ use Rattle.tables.specs.Layout as layout
 use Rattle.tables.specs.Layout.{cellOf}
 use Rattle.areas.specs.Areas.{tableSize}
 use Rattle.lr.specs.Items
-use Rattle.lr.specs.Items.{walk, First, Lookahead}
+use Rattle.lr.specs.Items.{walk, Lookahead}
+use Rattle.lr.specs.Sets.{First}
 use Rattle.lr.specs.States.{States}
 use Rattle.lr.specs.Cells.{Table}
 use Rattle.lr.specs.Relations.{Lookback}

@@ -8,6 +8,7 @@ use lib.Seq.{getD-at}
 use native.Mathlib.Omega.{arith}
 use native.Mathlib.Decide.{ℕ-discrete, decLt}
 use Rattle.grammar.specs.Grammar.{Grammar}
+use Rattle.lr.proofs.Canonical.{start-viable}
 use Rattle.lr.specs.Items
 use Rattle.lr.proofs.Automaton.{walk, walk-snoc}
 use Rattle.sets.specs.Lists.{each}
@@ -178,7 +179,7 @@ module _ (g : Grammar) where
     back {q} {q′} x a nz = rw (a .leads) at (st .moved (a .viable) x .1 (st′ .moved (a .viable) x .0 (rw (a .leads′) nz)))
 
     same-first : Same 0 0
-    same-first = record { path = []; viable = Items.by-item (Items.with-lookahead Items.start); leads = refl; leads′ = refl }
+    same-first = record { path = []; viable = start-viable g; leads = refl; leads′ = refl }
 
     same-below : {q q′ : ℕ} → Same q q′ → q′ < count′
     same-below a = rw (a .leads′) at (st′ .below (a .viable))
