@@ -230,7 +230,7 @@ module _ (g : Grammar) (f : Formed g) (pr : AllProductive g) (rows : List (List 
           before = λ q′ m′ h k b. single-of q′ m′ k (at q′ m′ k b);
         }
       where
-        at : (q′ m′ : ℕ) → m′ < g.terminals → Before q m q′ m′ → Short (acts q′ m′)
+        at : (q′ m′ : ℕ) → m′ < g.terminals → Before q′ m′ q m → Short (acts q′ m′)
         at q′ m′ k (lower-state l) = c q′ m′ (omega arith) l k
         at q′ m′ k (lower-symbol e l) = rw e (d m′ l)
 

@@ -98,7 +98,7 @@ module _ (g : Grammar) where
 
   module _ {count : ℕ} {next : ℕ → ℕ → ℕ} (st : States g count next) {count′ : ℕ} {next′ : ℕ → ℕ → ℕ} (st′ : States g count′ next′) where
     -- a cell with two actions is not before the first such cell
-    not-before : {q m v w q′ m′ v′ w′ : ℕ} → Conflict (Action g next) count g.terminals q m v w → Conflict (Action g next′) count′ g.terminals q′ m′ v′ w′ → Before q m q′ m′ → ⊥
+    not-before : {q m v w q′ m′ v′ w′ : ℕ} → Conflict (Action g next) count g.terminals q m v w → Conflict (Action g next′) count′ g.terminals q′ m′ v′ w′ → Before q′ m′ q m → ⊥
     not-before {q′ = q′} {m′ = m′} {v′ = v′} {w′ = w′} c d b =
         let h = d .state in
         let e : count ≡ count′ = same-count g st st′ in
@@ -109,7 +109,7 @@ module _ (g : Grammar) where
     same-cell : {q m v w q′ m′ v′ w′ : ℕ} → Conflict (Action g next) count g.terminals q m v w → Conflict (Action g next′) count′ g.terminals q′ m′ v′ w′ → (q′ ≡ q) × (m′ ≡ m)
     same-cell {q} {m} {q′ = q′} {m′ = m′} c d = go (compare q m q′ m′)
       where
-        go : Before q m q′ m′ ⊎ (((q′ ≡ q) × (m′ ≡ m)) ⊎ Before q′ m′ q m) → (q′ ≡ q) × (m′ ≡ m)
+        go : Before q′ m′ q m ⊎ (((q′ ≡ q) × (m′ ≡ m)) ⊎ Before q m q′ m′) → (q′ ≡ q) × (m′ ≡ m)
         go (inl b) = absurd (not-before st st′ c d b)
         go (inr (inl e)) = e
         go (inr (inr b)) = absurd (not-before st′ st d c b)

@@ -221,17 +221,17 @@ module _ (g : Grammar) (f : Formed g) (pr : AllProductive g) where
     pub items : (r d : ℕ) → In g s r d ↔ Items.Item g γ r d
     pub small : s < 2 ^ total g
 
-  by-path : {ts : List ℕ} (a : All Good ts) (i : ℕ) → i < length ts → On (getD ts i 0) (path-at a i)
-  by-path none i h = absurd (omega arith)
-  by-path (some p a) zero h = record { viable = p .viable; items = p .items; small = p .small }
-  by-path (some p a) (suc i) h = by-path a i (omega arith)
+  on-at : {ts : List ℕ} (a : All Good ts) (i : ℕ) → i < length ts → On (getD ts i 0) (path-at a i)
+  on-at none i h = absurd (omega arith)
+  on-at (some p a) zero h = record { viable = p .viable; items = p .items; small = p .small }
+  on-at (some p a) (suc i) h = on-at a i (omega arith)
 
   pub more-states : (n : ℕ) {ts : List ℕ} → All Good ts → Distinct ts → n < length ts → MoreStates g n
   more-states n {ts} a d h =
       record {
         path = path-at a;
-        viable = λ i k. by-path a i (omega arith) .viable;
-        apart = λ i j hi hj s. distinct-at d i j (omega arith) (omega arith) (eq i j (by-path a i (omega arith)) (by-path a j (omega arith)) s);
+        viable = λ i k. on-at a i (omega arith) .viable;
+        apart = λ i j hi hj s. distinct-at d i j (omega arith) (omega arith) (eq i j (on-at a i (omega arith)) (on-at a j (omega arith)) s);
       }
     where
       eq : (i j : ℕ) → On (getD ts i 0) (path-at a i) → On (getD ts j 0) (path-at a j) → Items.SameCore g (path-at a i) (path-at a j) → getD ts i 0 ≡ getD ts j 0
