@@ -22,7 +22,7 @@ use Rattle.lr.specs.Items.{walk, Lookahead}
 use Rattle.lr.specs.Sets.{First}
 use Rattle.lr.specs.States.{States}
 use Rattle.lr.specs.Cells.{Table}
-use Rattle.lr.specs.Relations.{Lookback}
+use Rattle.lr.specs.Relations.{LA}
 use Rattle.lr.proofs.Firsts.{first-yields}
 use Rattle.lr.proofs.ItemLaws.{AllProductive, all-productive}
 use Rattle.lr.proofs.Paths.{merged-exact, state-automaton}
@@ -84,7 +84,7 @@ module _ (c : List ℕ) (h : formFault c ≡ 0) where
 
       -- the short way of 001 gives the lookaheads of the merged sets
       pub short-way : (q s m : ℕ) → s < productions c
-          → Lookahead (grammarOf c) (Lalr.goes (grammarOf c) (states (grammarOf c) .rows)) q s m ↔ Lookback (grammarOf c) (Lalr.goes (grammarOf c) (states (grammarOf c) .rows)) q s m
+          → Lookahead (grammarOf c) (Lalr.goes (grammarOf c) (states (grammarOf c) .rows)) q s m ↔ LA (grammarOf c) (Lalr.goes (grammarOf c) (states (grammarOf c) .rows)) q s m
       short-way q s m k = ShortWay.short-way (grammarOf c) f made-all (length (states (grammarOf c) .rows)) next states-are inside q s m k
 
 -- a card that gets a table

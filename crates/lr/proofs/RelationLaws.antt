@@ -35,7 +35,8 @@ module _ (g : Grammar) (next : ℕ → ℕ → ℕ) where
     pub viable : Items.Viable g path
     pub leads : walk next 0 path ≡ q
 
-  pub record LookbackOf (q s b : ℕ) : Type 0 where
+  -- the look-ahead set of a production in a state
+  pub record LAOf (q s b : ℕ) : Type 0 where
     pub from : ℕ
     pub move : next from (g.left s) ≢ 0
     pub leads : walk next from (g.right s) ≡ q
@@ -96,10 +97,10 @@ module _ (g : Grammar) (f : Formed g) (pr : AllProductive g) (count : ℕ) (has 
       rw append-nil at o
   source (Canonical.goto i e) = source-next e (source i)
 
-  pub lookahead-lookback : {q s b : ℕ} → s < g.productions → Lookahead g next q s b → LookbackOf g next q s b
-  lookahead-lookback {q} {s} {b} h k = let t = lookahead-sits g f pr count has next au k in go (source (t .item)) (t .leads)
+  pub lookahead-la : {q s b : ℕ} → s < g.productions → Lookahead g next q s b → LAOf g next q s b
+  lookahead-la {q} {s} {b} h k = let t = lookahead-sits g f pr count has next au k in go (source (t .item)) (t .leads)
     where
-      go : {γ : List ℕ} → Source s (length (g.right s)) b γ → walk next 0 γ ≡ q → LookbackOf g next q s b
+      go : {γ : List ℕ} → Source s (length (g.right s)) b γ → walk next 0 γ ≡ q → LAOf g next q s b
       go (added e _) l = absurd (omega arith)
       go (inner α h nz fo) l = record { from = walk next 0 α; move = nz; leads = sym (walk-append next 0 α (g.right s)) ∙ rw take-length at l; follows = fo }
 
@@ -173,8 +174,8 @@ module _ (g : Grammar) (f : Formed g) (pr : AllProductive g) (count : ℕ) (has 
             let t = goto-all β₁ (x ∷ β₂) (Canonical.close i e′ h fi) e in
             seen (walk-append next 0 γ β₁ ∙ ap (λ (p : ℕ). walk next p β₁) l′ ∙ l) (t .0) (t .1) (first-follows g y refl)
 
-    pub lookback-lookahead : {q s b : ℕ} → s < g.productions → LookbackOf g next q s b → Lookahead g next q s b
-    lookback-lookahead {q} {s} {b} h k = go (seen-of (k .follows)) (k .leads)
+    pub la-lookahead : {q s b : ℕ} → s < g.productions → LAOf g next q s b → Lookahead g next q s b
+    la-lookahead {q} {s} {b} h k = go (seen-of (k .follows)) (k .leads)
       where
         go : {p : ℕ} → Seen p (g.left s) b → walk next p (g.right s) ≡ q → Lookahead g next q s b
         go (seen {γ} l i e fi) l′ =
