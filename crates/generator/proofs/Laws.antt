@@ -19,10 +19,13 @@ use Rattle.tables.specs.Layout.{build}
 use Rattle.tables.proofs.LayoutLaws.{built-sizes, built-long, built-left, built-length, built-cell}
 use Rattle.lr.specs.States.{States, MoreStates, nonterminalTransitions}
 use Rattle.lr.specs.Cells as lr
-use Rattle.lalr.specs.Generator.{made, refused, uselessAt, conflict, writes, tableLeft, tableOf, cardAnswer, generated}
+use Rattle.lalr.specs.Answer.{made, refused, uselessAt, conflict}
+use Rattle.lalr.specs.ComputedAnswer.{tableOf, cardAnswer}
+use Rattle.lalr.specs.Generator.{writes, tableLeft, generated}
 use Rattle.lalr.specs.Generator as definition
 use Rattle.lalr.specs.Meaning.{AllUseful, Sized, Judged, useless, many, wide, clash, fine}
-use Rattle.lalr.proofs.Finish.{Room, judged, by-card, left-alone, all-covered, table-found}
+use Rattle.lalr.specs.Demand2.{Room}
+use Rattle.lalr.proofs.Finish.{judged, by-card, left-alone, all-covered, table-found}
 use Rattle.lalr.proofs.Main.{card-answer}
 use Rattle.states.specs.States.{transition}
 use Rattle.transitions.specs.Next.{nextOf, Numbered, transitionCount}

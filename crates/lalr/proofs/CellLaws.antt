@@ -11,13 +11,15 @@ use Rattle.grammar.specs.Grammar.{Grammar, Formed}
 use Rattle.lr.proofs.ItemLaws.{AllProductive}
 use Rattle.lr.proofs.Automaton.{Automaton, Lookahead, sits-lookahead, lookahead-sits}
 use Rattle.sets.specs.Lists.{each}
+use Rattle.tables.specs.Layout.{reduction, accept}
 use Rattle.tables.specs.Conflicts.{Single, Conflict, Before, lower-state, lower-symbol}
 use Rattle.lr.specs.Cells.{Action, shifts, reduces, accepts}
 use Rattle.sets.specs.Bit.{bit}
-use Rattle.lalr.specs.Sets.{when}
-use Rattle.lalr.specs.Lalr
-use Rattle.lalr.specs.Lalr.{first, fact, facts, isMove, actions, cell}
-use Rattle.lalr.specs.Generator.{Answer, made, conflict, orElse, meeting, conflictIn, conflictFrom, conflictOf}
+use Rattle.lalr.specs.ComputedSets.{when}
+use Rattle.lalr.specs.ComputedStates
+use Rattle.lalr.specs.ComputedStates.{first, fact, facts, isMove, actions, cell}
+use Rattle.lalr.specs.Answer.{Answer, made, conflict}
+use Rattle.lalr.specs.ComputedAnswer.{orElse, meeting, conflictIn, conflictFrom, conflictOf}
 use Rattle.lalr.proofs.Lists.{not-true, each-in, each-from, From, from, when-in, when-from}
 use Rattle.lalr.proofs.ItemLaws.{Valid}
 use Rattle.lalr.proofs.FactLaws.{facts-only, facts-all}
@@ -109,9 +111,9 @@ module _ (met : ℕ → ℕ → List ℕ) where
       go (hit {m} h k e c) r = met-at {p = q} {m = m} (omega arith) (omega arith) (omega arith) e (λ p′ m′ i j k. absurd (omega arith)) (λ m′ l. c m′ (omega arith) l)
 
 -- ---- the actions of a cell
-module _ (g : Grammar) (f : Formed g) (pr : AllProductive g) (rows : List (List ℕ)) (holds : ℕ → ℕ → ℕ → Type 0) (au : Automaton g (length rows) holds (Lalr.goes g rows)) where
+module _ (g : Grammar) (f : Formed g) (pr : AllProductive g) (rows : List (List ℕ)) (holds : ℕ → ℕ → ℕ → Type 0) (au : Automaton g (length rows) holds (ComputedStates.goes g rows)) where
   abbrev next : ℕ → ℕ → ℕ
-  next q x = Lalr.goes g rows q x
+  next q x = ComputedStates.goes g rows q x
 
   abbrev acts : ℕ → ℕ → List ℕ
   acts q a = actions g rows (facts g rows) q a
@@ -120,10 +122,10 @@ module _ (g : Grammar) (f : Formed g) (pr : AllProductive g) (rows : List (List 
   shifting q a = when (isMove g (next q a)) (next q a ∷ [])
 
   abbrev reducing : ℕ → ℕ → ℕ → List ℕ
-  reducing q a r = when (bit (facts g rows) (fact g q (first g r + length (g.right r)) a)) ((1024 + r) ∷ [])
+  reducing q a r = when (bit (facts g rows) (fact g q (first g r + length (g.right r)) a)) (reduction r ∷ [])
 
   abbrev accepting : ℕ → ℕ → List ℕ
-  accepting q a = when (bit (facts g rows) (fact g q (first g g.productions + 1) a)) (4096 ∷ [])
+  accepting q a = when (bit (facts g rows) (fact g q (first g g.productions + 1) a)) (accept ∷ [])
 
   full-valid : (r : ℕ) → r ≤ g.productions → Valid g r (length (g.right r))
   full-valid r h = record { production = h; dot = omega arith }

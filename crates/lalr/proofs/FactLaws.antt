@@ -16,17 +16,17 @@ use Rattle.lr.proofs.ItemLaws.{AllProductive, after-symbols, lookahead-terminal
 use Rattle.lr.proofs.Automaton.{Automaton, Sits, walk, walk-snoc}
 use Rattle.sets.specs.Lists.{each}
 use Rattle.sets.specs.Bit.{bit}
-use Rattle.lalr.specs.Sets.{when}
-use Rattle.lalr.specs.Nonterminals.{nullables, firsts, inFirst}
-use Rattle.lalr.specs.Lalr
-use Rattle.lalr.specs.Lalr.{first, total, restAt, startsOf, fact, following, facts}
+use Rattle.lalr.specs.ComputedSets.{when}
+use Rattle.lalr.specs.ComputedNonterminals.{nullables, firsts, inFirst}
+use Rattle.lalr.specs.ComputedStates
+use Rattle.lalr.specs.ComputedStates.{first, total, restAt, startsOf, fact, following, facts}
 use Rattle.lalr.proofs.Members.{All, none, some, has-power, has-power-only}
 use Rattle.lalr.proofs.Reach.{reach-only, reach-all, reach-start}
 use Rattle.lalr.proofs.Lists.{all-of, each-in, each-from, From, from, when-in, when-from}
 use Rattle.lalr.proofs.ItemLaws.{Valid, Rest, rest, rest-of, rest-at, item-below, item-inj, valid-production, moved-valid, starts-from, starts-in}
 use Rattle.lalr.proofs.FirstLaws.{in-sound, in-all}
 
-module _ (g : Grammar) (f : Formed g) (pr : AllProductive g) (rows : List (List ℕ)) (holds : ℕ → ℕ → ℕ → Type 0) (au : Automaton g (length rows) holds (Lalr.goes g rows)) where
+module _ (g : Grammar) (f : Formed g) (pr : AllProductive g) (rows : List (List ℕ)) (holds : ℕ → ℕ → ℕ → Type 0) (au : Automaton g (length rows) holds (ComputedStates.goes g rows)) where
   abbrev T : ℕ
   T = g.terminals
 
@@ -34,7 +34,7 @@ module _ (g : Grammar) (f : Formed g) (pr : AllProductive g) (rows : List (List 
   I = total g
 
   abbrev next : ℕ → ℕ → ℕ
-  next q x = Lalr.goes g rows q x
+  next q x = ComputedStates.goes g rows q x
 
   abbrev lookahead : List ℕ → ℕ → ℕ → Bool
   lookahead β a b = inFirst g (nullables g) (firsts g) β a b

@@ -18,9 +18,9 @@ use Rattle.lr.specs.Sets
 use Rattle.lr.specs.Items
 use Rattle.lr.proofs.Firsts.{FirstYields, yields, empty, first-yields, first-begins, first-follows}
 use Rattle.sets.specs.Bit.{bit}
-use Rattle.lalr.specs.Sets.{withAll, when}
-use Rattle.lalr.specs.Nonterminals.{size, nullables, mayBegin, firstNext, firsts, inFirst}
-use Rattle.lalr.specs.Sets.{upFrom}
+use Rattle.lalr.specs.ComputedSets.{withAll, when}
+use Rattle.lalr.specs.ComputedNonterminals.{size, nullables, mayBegin, firstNext, firsts, inFirst}
+use Rattle.lalr.specs.ComputedSets.{upFrom}
 use Rattle.lalr.proofs.Members.{All, all-stay}
 use Rattle.lalr.proofs.Reach.{reach-only, reach-all, reach-start}
 use Rattle.lalr.proofs.Lists.{not-true, not-cons, up-in, up-from, all-of, all-in, set-of, each-in, each-from, From, from, when-in, when-from}

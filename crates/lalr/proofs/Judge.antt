@@ -21,10 +21,11 @@ use Rattle.lr.specs.Cells.{Action}
 use Rattle.lr.proofs.Unique.{pigeon, next-same, compare}
 use Rattle.lr.proofs.OneTable.{same-count, action-same}
 use Rattle.grammar.specs.Card.{formFault, grammarOf}
-use Rattle.lalr.specs.Nonterminals.{uselessNonterminal}
-use Rattle.lalr.specs.Lalr
-use Rattle.lalr.specs.Lalr.{states, facts, actions}
-use Rattle.lalr.specs.Generator.{Answer, uselessAt, conflict, judge, grammarAnswer}
+use Rattle.lalr.specs.ComputedNonterminals.{uselessNonterminal}
+use Rattle.lalr.specs.ComputedStates
+use Rattle.lalr.specs.ComputedStates.{states, facts, actions}
+use Rattle.lalr.specs.Answer.{Answer, uselessAt, conflict}
+use Rattle.lalr.specs.ComputedAnswer.{judge, grammarAnswer}
 use Rattle.lalr.specs.Meaning.{AllUseful, Judged, useless, many, wide, clash, fine}
 use Rattle.sets.proofs.ListLaws.{each-same}
 use Rattle.lalr.proofs.ItemLaws.{In}
@@ -41,7 +42,7 @@ module _ (g : Grammar) (f : Formed g) where
   count = length rows
 
   abbrev next : ℕ → ℕ → ℕ
-  next q x = Lalr.goes g rows q x
+  next q x = ComputedStates.goes g rows q x
 
   abbrev pub holds : ℕ → ℕ → ℕ → Type 0
   holds q r d = In g (getD (states g .sets) q 0) r d

@@ -18,8 +18,8 @@ use Rattle.lr.proofs.Automaton.{item-opened, closure-items}
 use Rattle.lr.proofs.Paths.{symbols-at, moved-item, items-behind, items-first}
 use Rattle.sets.specs.Lists.{each}
 use Rattle.lr.specs.States.{Taken, rowOf, States, MoreStates}
-use Rattle.lalr.specs.Lalr
-use Rattle.lalr.specs.Lalr.{first, total, goto, start, states, explore}
+use Rattle.lalr.specs.ComputedStates
+use Rattle.lalr.specs.ComputedStates.{first, total, goto, start, states, explore}
 use Rattle.sets.proofs.BitLaws.{bit-zero}
 use Rattle.lalr.proofs.Members.{All, none, some}
 use Rattle.lalr.proofs.Lists.{not-true}
@@ -113,7 +113,7 @@ module _ (g : Grammar) (f : Formed g) (pr : AllProductive g) where
     holds q r d = In g (getD ts q 0) r d
 
     abbrev pub next : ℕ → ℕ → ℕ
-    next q x = Lalr.goes g rows q x
+    next q x = ComputedStates.goes g rows q x
 
     good-at : (q : ℕ) → q < length ts → Good (getD ts q 0)
     good-at q h = all-at (inv .good) q h

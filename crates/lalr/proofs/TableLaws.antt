@@ -18,10 +18,11 @@ use Rattle.sets.specs.Lists.{each}
 use Rattle.lr.specs.States.{nonterminalTransitions}
 use Rattle.lr.specs.Cells.{Action, Cell, Table}
 use Rattle.grammar.specs.Card.{formFault, grammarOf, leftOf, lengthOf, terminals, nonterminals, productions}
-use Rattle.lalr.specs.Nonterminals.{uselessNonterminal}
-use Rattle.lalr.specs.Lalr
-use Rattle.lalr.specs.Lalr.{states, facts, cell}
-use Rattle.lalr.specs.Generator.{made, refused, uselessAt, conflictOf, judge, grammarAnswer, cardAnswer, tableOf}
+use Rattle.lalr.specs.ComputedNonterminals.{uselessNonterminal}
+use Rattle.lalr.specs.ComputedStates
+use Rattle.lalr.specs.ComputedStates.{states, facts, cell}
+use Rattle.lalr.specs.Answer.{made, refused, uselessAt}
+use Rattle.lalr.specs.ComputedAnswer.{conflictOf, judge, grammarAnswer, cardAnswer, tableOf}
 use Rattle.lalr.proofs.StateLaws
 use Rattle.lalr.proofs.CellLaws.{conflict-search, Short, single-of, cell-action, action-cell, no-conflict}
 use Rattle.lalr.proofs.UsefulLaws.{none-useless}
@@ -34,7 +35,7 @@ pub record Made (c : List ℕ) : Type 0 where
   pub fault : formFault c ≡ 0
   pub useful : terminals c + nonterminals c ≤ uselessNonterminal (grammarOf c)
   pub few : length (states (grammarOf c) .rows) ≤ 256
-  pub narrow : nonterminalTransitions (grammarOf c) (length (states (grammarOf c) .rows)) (Lalr.goes (grammarOf c) (states (grammarOf c) .rows)) ≤ 2048
+  pub narrow : nonterminalTransitions (grammarOf c) (length (states (grammarOf c) .rows)) (ComputedStates.goes (grammarOf c) (states (grammarOf c) .rows)) ≤ 2048
   pub clear : conflictOf (grammarOf c) (states (grammarOf c) .rows) ≡ made
 
 refused-not : {n : ℕ} → refused n ≡ made → ⊥
@@ -49,13 +50,13 @@ made-of c h = go₁ (formFault c) refl
     g : Grammar
     g = grammarOf c
 
-    go₄ : (b : Bool) → formFault c ≡ 0 → ltb (uselessNonterminal (grammarOf c)) (terminals c + nonterminals c) ≡ false → ltb 256 (length (states (grammarOf c) .rows)) ≡ false → ltb 2048 (nonterminalTransitions (grammarOf c) (length (states (grammarOf c) .rows)) (Lalr.goes (grammarOf c) (states (grammarOf c) .rows))) ≡ b → Made c
+    go₄ : (b : Bool) → formFault c ≡ 0 → ltb (uselessNonterminal (grammarOf c)) (terminals c + nonterminals c) ≡ false → ltb 256 (length (states (grammarOf c) .rows)) ≡ false → ltb 2048 (nonterminalTransitions (grammarOf c) (length (states (grammarOf c) .rows)) (ComputedStates.goes (grammarOf c) (states (grammarOf c) .rows))) ≡ b → Made c
     go₄ true e₁ e₂ e₃ e₄ = absurd (refused-not (rw (e₁, cardAnswer, grammarAnswer, e₂, judge, e₃, e₄) at h))
-    go₄ false e₁ e₂ e₃ e₄ = record { fault = e₁; useful = ltb-false (uselessNonterminal (grammarOf c)) (terminals c + nonterminals c) e₂; few = ltb-false 256 (length (states (grammarOf c) .rows)) e₃; narrow = ltb-false 2048 (nonterminalTransitions (grammarOf c) (length (states (grammarOf c) .rows)) (Lalr.goes (grammarOf c) (states (grammarOf c) .rows))) e₄; clear = rw (e₁, cardAnswer, grammarAnswer, e₂, judge, e₃, e₄) at h }
+    go₄ false e₁ e₂ e₃ e₄ = record { fault = e₁; useful = ltb-false (uselessNonterminal (grammarOf c)) (terminals c + nonterminals c) e₂; few = ltb-false 256 (length (states (grammarOf c) .rows)) e₃; narrow = ltb-false 2048 (nonterminalTransitions (grammarOf c) (length (states (grammarOf c) .rows)) (ComputedStates.goes (grammarOf c) (states (grammarOf c) .rows))) e₄; clear = rw (e₁, cardAnswer, grammarAnswer, e₂, judge, e₃, e₄) at h }
 
     go₃ : (b : Bool) → formFault c ≡ 0 → ltb (uselessNonterminal (grammarOf c)) (terminals c + nonterminals c) ≡ false → ltb 256 (length (states (grammarOf c) .rows)) ≡ b → Made c
     go₃ true e₁ e₂ e₃ = absurd (refused-not (rw (e₁, cardAnswer, grammarAnswer, e₂, judge, e₃) at h))
-    go₃ false e₁ e₂ e₃ = go₄ (ltb 2048 (nonterminalTransitions (grammarOf c) (length (states (grammarOf c) .rows)) (Lalr.goes (grammarOf c) (states (grammarOf c) .rows)))) e₁ e₂ e₃ refl
+    go₃ false e₁ e₂ e₃ = go₄ (ltb 2048 (nonterminalTransitions (grammarOf c) (length (states (grammarOf c) .rows)) (ComputedStates.goes (grammarOf c) (states (grammarOf c) .rows)))) e₁ e₂ e₃ refl
 
     go₂ : (b : Bool) → formFault c ≡ 0 → ltb (uselessNonterminal (grammarOf c)) (terminals c + nonterminals c) ≡ b → Made c
     go₂ true e₁ e₂ = absurd (useless-not (rw (e₁, cardAnswer, grammarAnswer, e₂) at h))
@@ -71,7 +72,7 @@ module _ (g : Grammar) (f : Formed g) (pr : AllProductive g) (productions-few : 
   rows = states g .rows
 
   abbrev next : ℕ → ℕ → ℕ
-  next q x = Lalr.goes g rows q x
+  next q x = ComputedStates.goes g rows q x
 
   abbrev au : Automaton g (length rows) (holds g f) next
   au = built g f pr few
@@ -100,7 +101,7 @@ module _ (c : List ℕ) (mk : Made c) where
   the-productive = none-useless g the-formed (mk .useful)
 
   abbrev pub transitions : ℕ → ℕ → ℕ
-  transitions q x = Lalr.goes g (states g .rows) q x
+  transitions q x = ComputedStates.goes g (states g .rows) q x
 
   abbrev pub count : ℕ
   count = length (states g .rows)

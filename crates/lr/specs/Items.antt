@@ -24,7 +24,7 @@ module _ (g : Grammar) where
     pub to : (r d : ℕ) → Item γ r d → Item γ′ r d
     pub from : (r d : ℕ) → Item γ′ r d → Item γ r d
 
-  -- the item is in the union of the canonical sets with the core of γ's set: the merged set
+  -- "find all sets having that core, and replace these sets by their union": the item is in the merged set of γ
   pub record Merged (γ : List ℕ) (r d a : ℕ) : Type 0 where
     pub path : List ℕ
     pub same : SameCore γ path

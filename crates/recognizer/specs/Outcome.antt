@@ -6,7 +6,8 @@ use mathlib.Core.List.{List}
 use Rattle.grammar.specs.Card.{grammarOf}
 use Rattle.machine.specs.Checks.{Reading, reading}
 use Rattle.claim.specs.Claim.{Demand3}
-use Rattle.lalr.specs.Generator.{Generated, made, generated}
+use Rattle.lalr.specs.Answer.{made}
+use Rattle.lalr.specs.Generator.{Generated, generated}
 use Rattle.generator.specs.Answer.{meaning}
 use Rattle.generator.specs.declared.Answer as generator
 use Rattle.parser.specs.Answer.{ReadsAs}
