@@ -9,7 +9,9 @@ use Rattle.machine.specs.ComputedRun.{reading}
 use Rattle.claim.specs.Claim.{Demand3}
 use Rattle.claim.proofs.Means.{Limits}
 use Rattle.claim.proofs.Delivered.{claim}
-use Rattle.lalr.specs.Generator.{made, cardAnswer, answerOf, tableOf, generated}
+use Rattle.lalr.specs.Answer.{made}
+use Rattle.lalr.specs.ComputedAnswer.{cardAnswer, tableOf}
+use Rattle.lalr.specs.Generator.{answerOf, generated}
 use Rattle.lalr.proofs.AreaLaws.{made-area}
 use Rattle.lalr.proofs.TableLaws.{Made, made-of, table-is, the-form, the-formed, the-productive}
 use Rattle.lalr.proofs.OrderLaws.{card-made}

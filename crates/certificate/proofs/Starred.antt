@@ -11,12 +11,13 @@ use Rattle.tables.specs.Layout.{width, cellOf, sizeOf, build}
 use Rattle.machine.specs.ComputedRun.{popped, topOf, actionOf, shifted, reducedTo, reduced, movedBy, after, run, start, expectedWord, wrongAt, reportOf, reading}
 use Rattle.machine.specs.Checks
 use Rattle.machine.specs.Checks.{productionOk, terminalCellOk, cellOk, rowOk, productionsOk, cellsOk, terminalOk, inputOk, refusalOf}
-use Rattle.lalr.specs.Nonterminals.{nullables, productive, reachable, uselessNonterminal, firsts}
-use Rattle.lalr.specs.Lalr
-use Rattle.lalr.specs.Lalr.{facts, closure, advance, goto}
-use Rattle.lalr.specs.Generator.{answerOf, tableOf}
+use Rattle.lalr.specs.ComputedNonterminals.{nullables, productive, reachable, uselessNonterminal, firsts}
+use Rattle.lalr.specs.ComputedStates
+use Rattle.lalr.specs.ComputedStates.{facts, closure, advance, goto}
+use Rattle.lalr.specs.ComputedAnswer.{tableOf}
+use Rattle.lalr.specs.Generator.{answerOf}
 use Rattle.certificate.specs.Rows.{Row, rows, stated, computed}
 
 pub starred : map (λ (r : Row). computed (r .card) (r .lines)) rows ≡ map (λ (r : Row). stated (r .answer) (r .lines)) rows
-unfolding bit allBelow between Card.terminals Card.nonterminals Card.productions symbols Card.leftOf Card.lengthOf symbolOf startOf rightOf nullables productive reachable uselessNonterminal firsts Lalr.states facts closure advance goto Lalr.start tableOf build Layout.states Layout.terminals Layout.nonterminals Layout.productions width Layout.leftOf Layout.lengthOf cellOf sizeOf popped topOf actionOf shifted reducedTo reduced movedBy after run start ones onesIn expectedWord wrongAt reportOf Checks.sizesOk productionOk terminalCellOk cellOk rowOk productionsOk cellsOk terminalOk inputOk refusalOf reading Card.sizesOk isNonterminal isSymbol leftsOk rightsOk formFault answerOf
+unfolding bit allBelow between Card.terminals Card.nonterminals Card.productions symbols Card.leftOf Card.lengthOf symbolOf startOf rightOf nullables productive reachable uselessNonterminal firsts ComputedStates.states facts closure advance goto ComputedStates.start tableOf build Layout.states Layout.terminals Layout.nonterminals Layout.productions width Layout.leftOf Layout.lengthOf cellOf sizeOf popped topOf actionOf shifted reducedTo reduced movedBy after run start ones onesIn expectedWord wrongAt reportOf Checks.sizesOk productionOk terminalCellOk cellOk rowOk productionsOk cellsOk terminalOk inputOk refusalOf reading Card.sizesOk isNonterminal isSymbol leftsOk rightsOk formFault answerOf
 starred = refl

@@ -5,7 +5,9 @@ use lib.ListN.{replicate}
 use Rattle.areas.specs.Areas.{tableSize, wordsSize, halvesSize}
 use Rattle.machine.specs.Report as report
 use Rattle.machine.specs.ComputedRun.{reading}
-use Rattle.lalr.specs.Generator as lalr
+use Rattle.lalr.specs.Answer as lalr
+use Rattle.lalr.specs.ComputedAnswer.{tableOf}
+use Rattle.lalr.specs.Generator.{answerOf}
 
 -- Card A: 3 → 3 1, 3 → 2
 abbrev pub cardA : List ℕ
@@ -166,5 +168,5 @@ readLine t l =
 
 abbrev pub computed : List ℕ → List Line → Result
 computed c lines =
-    let a = lalr.answerOf tableSize wordsSize halvesSize c in
-    record { numbers = lalr.numbersOf a; table = tableIf a (lalr.tableOf c); lines = map (readLine (lalr.tableOf c)) lines }
+    let a = answerOf tableSize wordsSize halvesSize c in
+    record { numbers = lalr.numbersOf a; table = tableIf a (tableOf c); lines = map (readLine (tableOf c)) lines }

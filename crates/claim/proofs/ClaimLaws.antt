@@ -7,6 +7,7 @@ use lib.ListN.{length, drop, take, take-append-drop}
 use native.Mathlib.Omega.{arith}
 use Rattle.grammar.specs.Grammar.{Grammar, Formed, Symbols, Sentence, Rightmost}
 use Rattle.lr.proofs.Runs
+use Rattle.lr.proofs.Canonical.{start-viable}
 use Rattle.lr.specs.Items
 use Rattle.lr.proofs.ItemLaws.{AllProductive}
 use Rattle.lr.proofs.MachineLaws.{accepted, refused}
@@ -53,7 +54,7 @@ pub data Ended (g : Grammar) (l : List ℕ) (i : ℕ) (p : List ℕ) : ℕ → T
 module _ (g : Grammar) (f : Formed g) (pr : AllProductive g) (li : Limits g) (t : List ℕ) (tm : TableMeans g t) where
   pub ended : {l : List ℕ} → Symbols g.terminals l → {a : Allowed} {n steps most : ℕ} {qs x out : List ℕ} → Path t steps most (conf (0 ∷ []) l []) (conf qs x out) → Stops t a (conf qs x out) n
       → (i : ℕ) → (n ≡ 31 → i + length x ≡ length l) → Ended g l i out n
-  ended {l} m {a} {n} {steps} {qs = qs} {x = x} {out = out} mv w i hi = go (follows g f pr li t tm mv [] l [] refl (Items.by-item (Items.with-lookahead Items.start)) m) refl
+  ended {l} m {a} {n} {steps} {qs = qs} {x = x} {out = out} mv w i hi = go (follows g f pr li t tm mv [] l [] refl (start-viable g) m) refl
     where
       finish : {γ qs x out : List ℕ} → Runs.Run g (act g f pr li t tm) [] l out γ x → Items.Viable g γ → Symbols g.terminals x → qs ≡ on g f pr li t tm γ
           → {n : ℕ} → (n ≡ 31 → i + length x ≡ length l) → Stops t a (conf qs x out) n → Ended g l i out n

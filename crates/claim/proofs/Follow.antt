@@ -8,6 +8,7 @@ use native.Mathlib.Omega.{arith}
 use Rattle.grammar.specs.Grammar.{Grammar, Formed, Symbols}
 use Rattle.grammar.specs.Grammar
 use Rattle.lr.proofs.Runs
+use Rattle.lr.proofs.Canonical.{by-path}
 use Rattle.lr.specs.Items
 use Rattle.sets.specs.Lists.{peek, rest}
 use Rattle.lr.proofs.Runs.{Act, shift, reduce, accept, wrong}
@@ -44,7 +45,7 @@ module _ (g : Grammar) (f : Formed g) (pr : AllProductive g) (li : Limits g) (t 
   top-walk γ e = ap top e ∙ stack-top tm.next 0 γ []
 
   pub after-steps : {γ : List ℕ} {x : ℕ} → Runs.After g γ x → (walk tm.next 0 γ < states t) × (tm.next (walk tm.next 0 γ) x ≢ 0)
-  after-steps (Runs.dot-before (Items.with-lookahead i) e) = let h = has-of g f pr (states t) (Has g tm.next) tm.next (automaton g f pr li t tm) i in (h .0, automaton g f pr li t tm .next-some (h .0) .1 (goes (h .1) e))
+  after-steps (Runs.dot-before (Items.with-lookahead _ i) e) = let h = has-of g f pr (states t) (Has g tm.next) tm.next (automaton g f pr li t tm) (by-path i) in (h .0, automaton g f pr li t tm .next-some (h .0) .1 (goes (h .1) e))
 
   -- where the LR machine has come from a path's configuration, a run along paths has come by as many steps
   pub data Followed (γ x out : List ℕ) (n : ℕ) : Config → Type 0 where

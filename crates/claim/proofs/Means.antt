@@ -8,12 +8,13 @@ use native.Mathlib.Omega.{arith}
 use native.Mathlib.Decide.{decLt}
 use Rattle.grammar.specs.Grammar.{Grammar, Formed}
 use Rattle.lr.proofs.Runs.{Act, shift, reduce, accept, wrong}
+use Rattle.lr.proofs.Canonical.{by-path}
 use Rattle.lr.specs.Items
 use Rattle.lr.specs.States.{States}
 use Rattle.lr.specs.Cells.{Action, shifts, reduces, accepts}
 use Rattle.lr.proofs.ItemLaws.{AllProductive, lookahead-terminal, added-end}
 use Rattle.lr.proofs.Paths.{Has, state-automaton}
-use Rattle.lr.proofs.Automaton.{Automaton, Cells, Lookahead, walk}
+use Rattle.lr.proofs.Automaton.{Automaton, Cells, Lookahead, walk, sits-lookahead, merged-item}
 use Rattle.tables.specs.Layout
 use Rattle.tables.specs.Layout.{states, terminals, nonterminals, productions, cellOf, leftOf, lengthOf, sizeOf, reduction}
 use Rattle.machine.proofs.LrMachineLaws.{Kind, kind, is-wrong, is-shift, is-accept, is-reduce}
@@ -161,15 +162,15 @@ module _ (g : Grammar) (f : Formed g) (next : ℕ → ℕ → ℕ) where
   added-lookahead {q} {m} e h = go (h .path) (h .leads) (h .item)
     where
       go : (γ : List ℕ) → walk next 0 γ ≡ q → Items.Item g γ g.productions 1 → Lookahead g next q g.productions m
-      go γ el (Items.with-lookahead {a} i) =
-          let ea : a ≡ m = added-end g refl i ∙ sym e in
+      go γ el (Items.with-lookahead a i) =
+          let ea : a ≡ m = added-end g refl (by-path i) ∙ sym e in
           let n : length (g.right g.productions) ≡ 1 = ap length (f.added) in
-          record { path = γ; leads = el; item = rw n (rw ea at i) }
+          sits-lookahead g (record { path = γ; leads = el; item = rw n (rw ea at (by-path i)) })
 
   pub lookahead-added : {q m : ℕ} → Lookahead g next q g.productions m → (m ≡ 0) × Has g next q g.productions 1
   lookahead-added a =
       let n : length (g.right g.productions) ≡ 1 = ap length (f.added) in
-      (added-end g refl (a .item), record { path = a .path; leads = a .leads; item = Items.with-lookahead (rw n at (a .item)) })
+      (added-end g refl (by-path (a .merged .item)), record { path = a .path; leads = a .leads; item = rw n at (merged-item g (a .merged)) })
 
 module _ (g : Grammar) (f : Formed g) (pr : AllProductive g) (li : Limits g) (t : List ℕ) (tm : TableMeans g t) where
   pub automaton : Automaton g (states t) (Has g tm.next) tm.next
@@ -223,7 +224,7 @@ module _ (g : Grammar) (f : Formed g) (pr : AllProductive g) (li : Limits g) (t 
 
       from-reduce : (q m r : ℕ) → q < states t → r < g.productions → Lookahead g tm.next q r m → actionAt t q m ≡ reduce r
       from-reduce q m r h k a =
-          let b = lookahead-terminal g f (a .item) in
+          let b = lookahead-terminal g f (by-path (a .merged .item)) in
           let n = li.productions-most in
           action-below t q m (above b) ∙ decode-reduce (cellOf t q m) r (omega arith) (tm.in-cell h b (reduces r k a))
 

@@ -11,8 +11,11 @@ use borrow.Author.Tests.{le-ltb}
 use Rattle.grammar.specs.Card.{formFault}
 use Rattle.grammar.proofs.CardLaws.{fault-most}
 use Rattle.areas.specs.Areas.{tableSize, wordsSize, halvesSize}
-use Rattle.lalr.specs.Generator.{refused, generated, writes, cardAnswer}
-use Rattle.lalr.proofs.Finish.{Room, by-card, short-table, short-words, short-halves}
+use Rattle.lalr.specs.Answer.{refused}
+use Rattle.lalr.specs.ComputedAnswer.{cardAnswer}
+use Rattle.lalr.specs.Generator.{generated, writes}
+use Rattle.lalr.specs.Demand2.{Room}
+use Rattle.lalr.proofs.Finish.{by-card, short-table, short-words, short-halves}
 use Rattle.generator.specs.declared.Answer.the-variants.{Refused}
 use Rattle.generator.specs.Answer.{GeneratesAs}
 use Rattle.generator.proofs.Laws.{keeps}

@@ -19,10 +19,13 @@ use Rattle.tables.specs.Layout.{build}
 use Rattle.tables.proofs.LayoutLaws.{built-sizes, built-long, built-left, built-length, built-cell}
 use Rattle.lr.specs.States.{States, MoreStates, nonterminalTransitions}
 use Rattle.lr.specs.Cells as lr
-use Rattle.lalr.specs.Generator.{made, refused, uselessAt, conflict, writes, tableLeft, tableOf, cardAnswer, generated}
+use Rattle.lalr.specs.Answer.{made, refused, uselessAt, conflict}
+use Rattle.lalr.specs.ComputedAnswer.{tableOf, cardAnswer}
+use Rattle.lalr.specs.Generator.{writes, tableLeft, generated}
 use Rattle.lalr.specs.Generator as definition
 use Rattle.lalr.specs.Meaning.{AllUseful, Sized, Judged, useless, many, wide, clash, fine}
-use Rattle.lalr.proofs.Finish.{Room, judged, by-card, left-alone, all-covered, table-found}
+use Rattle.lalr.specs.Demand2.{Room}
+use Rattle.lalr.proofs.Finish.{judged, by-card, left-alone, all-covered, table-found}
 use Rattle.lalr.proofs.Main.{card-answer}
 use Rattle.states.specs.States.{transition}
 use Rattle.transitions.specs.Places.{transitionLimit}
@@ -37,6 +40,7 @@ use Rattle.bridge.specs.Actions.{Acts}
 use Rattle.bridge.proofs.Numbering.{numbered}
 use Rattle.bridge.proofs.Counting.{transition-count}
 use Rattle.bridge.proofs.SameStates.{states-same, next-inside}
+use Rattle.lr.proofs.CellLaws.{cell-single}
 use Rattle.bridge.proofs.ActionLaws.{cell-is, conflict-is}
 use Rattle.generator.specs.declared.Answer.{Answer}
 use Rattle.generator.specs.declared.Answer.the-variants.{Table, Refused, Useless, Conflict as Met}
@@ -125,7 +129,7 @@ module _ (t₀ z₀ w₀ c : List ℕ) where
           built = build n (terminals c) (nonterminals c) (productions c) (leftOf c) (lengthOf c) cell
 
           pub table-made : generated t₀ z₀ w₀ c .answer ≡ made
-          table-made = judged t₀ z₀ w₀ c o f made (fine n (nextOf c t n) sized (λ q m h l. cell-is followed q m (cell q m) l (cells q m h l) .only))
+          table-made = judged t₀ z₀ w₀ c o f made (fine n (nextOf c t n) sized (λ q m h l. cell-single (grammarOf c) (cell-is followed q m (cell q m) (cells q m h l))))
 
           is-table : lr.Table (grammarOf c) n (nextOf c t n) built
           is-table =
@@ -136,10 +140,10 @@ module _ (t₀ z₀ w₀ c : List ℕ) where
                 lefts = λ r h. built-left n (terminals c) (nonterminals c) (productions c) (leftOf c) (lengthOf c) cell r h;
                 lengths = λ r h. built-length n (terminals c) (nonterminals c) (productions c) (leftOf c) (lengthOf c) cell r h ∙ sym (right-length c r h);
                 terminals = λ q m hq hm.
-                    rw (built-cell n (terminals c) (nonterminals c) (productions c) (leftOf c) (lengthOf c) cell q m hq (omega arith)) (cell-is followed q m (cell q m) hm (cells q m hq hm));
+                    rw (built-cell n (terminals c) (nonterminals c) (productions c) (leftOf c) (lengthOf c) cell q m hq (omega arith)) (cell-is followed q m (cell q m) (cells q m hq hm));
                 nonterminals = λ q x hq hx.
                     built-cell n (terminals c) (nonterminals c) (productions c) (leftOf c) (lengthOf c) cell q (terminals c + x) hq (omega arith) ∙ nexts q (terminals c + x) hq (omega arith) (omega arith);
               }
 
           pub the-table : built ≡ tableOf c
-          the-table = table-found c built (card-answer c f made .1 (fine n (nextOf c t n) sized (λ q m h l. cell-is followed q m (cell q m) l (cells q m h l) .only))) is-table
+          the-table = table-found c built (card-answer c f made .1 (fine n (nextOf c t n) sized (λ q m h l. cell-single (grammarOf c) (cell-is followed q m (cell q m) (cells q m h l))))) is-table

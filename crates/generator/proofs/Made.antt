@@ -10,9 +10,11 @@ use Rattle.grammar.specs.Grammar.{Derives}
 use Rattle.areas.specs.Areas.{tableSize, wordsSize, halvesSize}
 use Rattle.lr.proofs.ItemLaws.{all-productive}
 use Rattle.lr.specs.States.{States, MoreStates}
-use Rattle.lalr.specs.Generator.{made, refused, conflict, generated, tableOf}
+use Rattle.lalr.specs.Answer.{made, refused, conflict}
+use Rattle.lalr.specs.ComputedAnswer.{tableOf}
+use Rattle.lalr.specs.Generator.{generated}
 use Rattle.lalr.specs.Meaning.{AllUseful}
-use Rattle.lalr.proofs.Finish.{Room}
+use Rattle.lalr.specs.Demand2.{Room}
 use Rattle.nonterminals.specs.Sets.{NonterminalSet}
 use Rattle.states.specs.States.{transition}
 use Rattle.states.specs.States as states

@@ -13,8 +13,11 @@ use Rattle.grammar.specs.Card.{formFault, grammarOf}
 use Rattle.lr.specs.Cells.{Table}
 use Rattle.sets.specs.Lists.{covered}
 use Rattle.areas.specs.Areas.{tableSize, wordsSize, halvesSize}
-use Rattle.lalr.specs.Generator.{Answer, made, refused, answerOf, cardAnswer, tableOf, writes, tableLeft, Generated, generated}
+use Rattle.lalr.specs.Answer.{Answer, made, refused}
+use Rattle.lalr.specs.ComputedAnswer.{cardAnswer, tableOf}
+use Rattle.lalr.specs.Generator.{answerOf, writes, tableLeft, Generated, generated}
 use Rattle.lalr.specs.Meaning.{Judged}
+pub use Rattle.lalr.specs.Demand2.{Room}
 use Rattle.lalr.proofs.AreaLaws.{covered-length}
 use Rattle.lalr.proofs.Main.{card-answer, only-table}
 
@@ -64,12 +67,7 @@ covers n l area area′ h k c = ext-getD 0 area′ (covered n l area) (c .long �
 
 -- ---- the answer
 
--- the areas are long enough: the card decides
-pub record Room (t z w : List ℕ) : Type 0 where
-  pub table : tableSize ≤ length t
-  pub words : wordsSize ≤ length z
-  pub halves : halvesSize ≤ length w
-
+-- with long enough areas the card decides
 pub by-card : (t z w c : List ℕ) → Room t z w → (a : Answer) → cardAnswer c ≡ a → generated t z w c .answer ≡ a
 unfolding generated answerOf
 by-card t z w c o a e = rw (le-ltb (length t) tableSize (o .table), answerOf, le-ltb (length z) wordsSize (o .words), le-ltb (length w) halvesSize (o .halves)) e

@@ -17,3 +17,5 @@ pub mod Main
 pub mod AreaLaws
 pub mod OrderLaws
 pub mod Finish
+pub mod Demand2
+pub mod AnswerLaws

@@ -1,5 +1,8 @@
-pub mod Sets
-pub mod Nonterminals
-pub mod Lalr
-pub mod Generator
+pub mod Answer
 pub mod Meaning
+pub mod Generator
+pub mod Demand2
+pub mod ComputedSets
+pub mod ComputedNonterminals
+pub mod ComputedStates
+pub mod ComputedAnswer

@@ -5,7 +5,7 @@ use Rattle.grammar.specs.Useful.{Useful, Nonterminal}
 use Rattle.lr.specs.States.{States, MoreStates, nonterminalTransitions}
 use Rattle.tables.specs.Conflicts.{Conflict, Single}
 use Rattle.lr.specs.Cells.{Action}
-use Rattle.lalr.specs.Generator.{Answer, made, refused, uselessAt, conflict}
+use Rattle.lalr.specs.Answer.{Answer, made, refused, uselessAt, conflict}
 
 module _ (g : Grammar) where
   pub record AllUseful : Type 0 where

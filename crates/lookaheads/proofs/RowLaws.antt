@@ -165,7 +165,7 @@ pub record Crossed (A : ℕ → ℕ → ℕ → Type 0) (count terminals q m : �
   pub state : q < count
   pub terminal : m < terminals
   pub two : Two (A q m)
-  pub before : (q′ m′ : ℕ) → q′ < count → m′ < terminals → Before q m q′ m′ → Single (A q′ m′)
+  pub before : (q′ m′ : ℕ) → q′ < count → m′ < terminals → Before q′ m′ q m → Single (A q′ m′)
 
 -- the word has no terminal below m
 abbrev pub Clear : ℕ → ℕ → Type 0
@@ -266,7 +266,7 @@ module _ (c t₀ w z : List ℕ) (n k : ℕ) (stage : Stage c t₀ w z n) (o : O
           row : (i : ℕ) → i < terminals c → i < m → Single (Stands c t₀ w z n k q i)
           row i hi l = let y = one i hi (none i l) in record { only = λ v u a d. y .only v u (from i hi v a) (from i hi u d) }
 
-          go : (p i : ℕ) → i < terminals c → Before q m p i → Single (Stands c t₀ w z n k p i)
+          go : (p i : ℕ) → i < terminals c → Before p i q m → Single (Stands c t₀ w z n k p i)
           go p i hi (lower-state l) = cell-single (getD t (rowOf c p + i) 0) (done .cells p i l hi)
           go p i hi (lower-symbol e l) = subst (λ (x : ℕ). Single (Stands c t₀ w z n k x i)) (sym e) (row i hi l)
 

@@ -8,10 +8,11 @@ use Rattle.sets.specs.Tests.{allBelow, between}
 use Rattle.grammar.specs.Card as cards
 use Rattle.grammar.specs.Card.{symbols, symbolOf, startOf, rightOf, isNonterminal, isSymbol, leftsOk, rightsOk, formFault}
 use Rattle.tables.specs.Layout.{build}
-use Rattle.lalr.specs.Nonterminals.{nullables, productive, reachable, uselessNonterminal, firsts}
-use Rattle.lalr.specs.Lalr as lalr
-use Rattle.lalr.specs.Lalr.{facts, closure, advance, goto}
-use Rattle.lalr.specs.Generator.{made, cardAnswer, tableOf}
+use Rattle.lalr.specs.ComputedNonterminals.{nullables, productive, reachable, uselessNonterminal, firsts}
+use Rattle.lalr.specs.ComputedStates as lalr
+use Rattle.lalr.specs.ComputedStates.{facts, closure, advance, goto}
+use Rattle.lalr.specs.Answer.{made}
+use Rattle.lalr.specs.ComputedAnswer.{cardAnswer, tableOf}
 use Rattle.decimal.specs.Form.{Card}
 use Rattle.decimal.specs.Scanning.{classOf, entered, fedIn, fed, foundOf}
 use Rattle.decimal.proofs.Scanned.{scanned-card}

@@ -5,7 +5,8 @@ use mathlib.Core.List.{List}
 use Prim.Native.Nat.{ℕ}
 use native.Mathlib.Omega.{arith}
 use Rattle.machine.specs.ComputedRun.{reading}
-use Rattle.lalr.specs.Generator.{made, refused, uselessAt, conflict, generated}
+use Rattle.lalr.specs.Answer.{made, refused, uselessAt, conflict}
+use Rattle.lalr.specs.Generator.{generated}
 use Rattle.certificate.proofs.Demand.{across}
 use Rattle.generator.specs.Answer.{meaning, GeneratesAs}
 use Rattle.generator.specs.declared.Answer.{Answer}

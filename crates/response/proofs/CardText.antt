@@ -7,7 +7,9 @@ use borrow.Author.Tests.{le-ltb, ne-eqb}
 use lib.ListN.{length, getD}
 use Rattle.tables.specs.Layout.{width}
 use Rattle.areas.specs.Areas.{tableSize, wordsSize, halvesSize}
-use Rattle.lalr.specs.Generator.{Answer, made, numbersOf, cardAnswer, answerOf, tableOf, generated}
+use Rattle.lalr.specs.Answer.{Answer, made, numbersOf}
+use Rattle.lalr.specs.ComputedAnswer.{cardAnswer, tableOf}
+use Rattle.lalr.specs.Generator.{answerOf, generated}
 use Rattle.lalr.proofs.AreaLaws.{made-area}
 use Rattle.lalr.proofs.Main.{card-table, table-words}
 use Rattle.lalr.proofs.TableLaws.{made-of, the-form}

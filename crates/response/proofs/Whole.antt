@@ -6,7 +6,8 @@ use native.Mathlib.Omega.{arith}
 use lib.ListN.{length, take}
 use Rattle.areas.specs.Areas.{tableSize, wordsSize, halvesSize}
 use Rattle.decimal.proofs.Written.{page-text}
-use Rattle.lalr.specs.Generator.{numbersOf, generated}
+use Rattle.lalr.specs.Answer.{numbersOf}
+use Rattle.lalr.specs.Generator.{generated}
 use Rattle.response.specs.Response.{responseText, cardText, RepliesAs}
 use Rattle.response.proofs.CardText.{card-text, card-room}
 

@@ -10,6 +10,7 @@ use lib.ListN.{getD}
 use Rattle.sets.specs.Bit.{count}
 use Rattle.sets.proofs.HasLaws.{lt-or-ge}
 use Rattle.grammar.specs.Card.{terminals, productions, startOf, formFault}
+use Rattle.tables.specs.Conflicts.{Before, lower-state, lower-symbol}
 use Rattle.transitions.specs.Places.{transitionLimit, enteringAt, startsAt, lastsAt, productionsAt, dotsAt, linksAt, occurrencesAt}
 use Rattle.transitions.specs.Area.{leavesOf, nonterminalOf, firstOf, enteringOf, precedes, startingOf, lastOf, linkOf, occurrencesOf, nullablesOf}
 use Rattle.transitions.specs.Next.{Goes, Numbered, moves, transitionCount}
@@ -17,7 +18,7 @@ use Rattle.transitions.specs.Occurrences.{symbolAt, occurringOf, Occurrences}
 use Rattle.transitions.specs.Data.{Enters, Data, Built}
 use Rattle.transitions.proofs.WriteLaws.{nullables-same}
 use Rattle.occurrences.specs.Stores.{Cleared}
-use Rattle.transition_lists.specs.Passes.{Before, Listing, Firsts, Passed, Come}
+use Rattle.transition_lists.specs.Passes.{Listing, Firsts, Passed, Come}
 use Rattle.occurrences.specs.Gathers.{Prepared}
 use Rattle.transition_lists.proofs.PassLaws.{lower}
 use Rattle.occurrences.proofs.GatherLaws.{latest-same}
@@ -43,8 +44,8 @@ module _ (c : List ℕ) (e : ℕ) (w w′ : List ℕ) (same : (i : ℕ) → star
 -- ---- the table's part
 
 never : (p y : ℕ) → Before p y p y → ⊥
-never p y (inl h) = omega arith
-never p y (inr h) = let a = h .1 in omega arith
+never p y (lower-state h) = omega arith
+never p y (lower-symbol h l) = omega arith
 
 module _ (c : List ℕ) (n : ℕ) (next : ℕ → ℕ → ℕ) (N : Numbered c n next) (t : 1 ≤ terminals c) (w : List ℕ) (k : ℕ) (P : Passed c next w n 1 k 257) (few : k ≤ transitionLimit) where
   L : Listing c next w n 1 k
@@ -99,8 +100,8 @@ module _ (c : List ℕ) (n : ℕ) (next : ℕ → ℕ → ℕ) (N : Numbered c n
       record {
         from = omega (arith, N .most);
         into = omega (arith, N .most);
-        before = subst (λ (z : ℕ). precedes w z p ≡ true) (g .target) (P .seen .before p x (inl hp) nz);
-        symbol = subst (λ (z : ℕ). enteringOf w z ≡ x) (g .target) (P .seen .symbol p x (inl hp) nz);
+        before = subst (λ (z : ℕ). precedes w z p ≡ true) (g .target) (P .seen .before p x (lower-state hp) nz);
+        symbol = subst (λ (z : ℕ). enteringOf w z ≡ x) (g .target) (P .seen .symbol p x (lower-state hp) nz);
       }
 
   enters : (p x q : ℕ) → Enters w p x q → Goes next p x q
@@ -132,7 +133,7 @@ module _ (c : List ℕ) (n : ℕ) (next : ℕ → ℕ → ℕ) (N : Numbered c n
       states = leaves;
       target = L .target;
       some = L .some;
-      listed = λ p x s z. L .all p x s (inl (N .from p x z)) z;
+      listed = λ p x s z. L .all p x s (lower-state (N .from p x z)) z;
       goes = goes;
       enters = enters;
       start = P .seen .start;

@@ -15,6 +15,7 @@ use Rattle.sets.proofs.CountLaws.{count-le}
 use Rattle.sets.proofs.HasLaws.{lt-or-ge, or-cases, or-left, or-right}
 use Rattle.sets.proofs.TestLaws.{and-both, and-true}
 use Rattle.grammar.specs.Card.{terminals, nonterminals}
+use Rattle.tables.specs.Conflicts.{Before, lower-state, lower-symbol}
 use Rattle.transitions.specs.Places.{transitionLimit, leavesAt, nonterminalsAt, entersAt, firstsAt, enteringAt, startsAt}
 use Rattle.transitions.specs.Area.{leavesOf, nonterminalOf, entersOf, firstOf, enteringOf, precedes}
 use Rattle.areas.specs.Areas.{rowOf}
@@ -24,21 +25,21 @@ use Rattle.transitions.specs.Writes.{Stored}
 use Rattle.transitions.proofs.WriteLaws.{eq-or, precedes-same, precedes-none}
 use Rattle.transition_lists.specs.Stores.{Noted, Celled}
 use Rattle.transition_lists.specs.Stores.Celled.{vacant, terminal, many, listed}
-use Rattle.transition_lists.specs.Passes.{Before, Listing, Firsts, Seen, Passed, Behind, Come}
+use Rattle.transition_lists.specs.Passes.{Listing, Firsts, Seen, Passed, Behind, Come}
 
 -- ---- the order of cells
 
 pub before-suc : (p y q x : ℕ) → Before p y q (x + 1) → Before p y q x ⊎ ((p ≡ q) × (y ≡ x))
-before-suc p y q x (inl h) = inl (inl h)
-before-suc p y q x (inr h) =
-    ⊎-elim (λ (e : y ≡ x). inr (h .0, e)) (λ (e : y < x). inl (inr (h .0, e))) (eq-or-lt-of-le (let z = h .1 in let l : y ≤ x = omega arith in l))
+before-suc p y q x (lower-state h) = inl (lower-state h)
+before-suc p y q x (lower-symbol h l) =
+    ⊎-elim (λ (e : y ≡ x). inr (h, e)) (λ (e : y < x). inl (lower-symbol h e)) (eq-or-lt-of-le (let k : y ≤ x = omega arith in k))
 
 pub before-up : (p y q x : ℕ) → Before p y q x → Before p y q (x + 1)
-before-up p y q x (inl h) = inl h
-before-up p y q x (inr h) = inr (h .0, let z = h .1 in omega arith)
+before-up p y q x (lower-state h) = lower-state h
+before-up p y q x (lower-symbol h l) = lower-symbol h (omega arith)
 
 pub before-self : (q x : ℕ) → Before q x q (x + 1)
-before-self q x = inr (refl, omega arith)
+before-self q x = lower-symbol refl (omega arith)
 
 -- ---- the cell that a place of the table area holds
 
@@ -311,16 +312,20 @@ module _ (c : List ℕ) (n : ℕ) (next : ℕ → ℕ → ℕ) (N : Numbered c n
 module _ (c : List ℕ) (n : ℕ) (next : ℕ → ℕ → ℕ) (t : 1 ≤ terminals c) where
   -- the transitions listed before state q leave lower states
   pub lower : (w : List ℕ) (q k : ℕ) → Listing c next w q 1 k → (i : ℕ) → i < k → leavesOf w i < q
-  lower w q k L i h = ⊎-elim (λ g. g) (λ g. absurd (let a = g .1 in let b = L .low i h in let z : ⊥ = omega arith in z)) (L .place i h)
+  lower w q k L i h = go (L .place i h)
+    where
+      go : Before (leavesOf w i) (nonterminalOf w i) q 1 → leavesOf w i < q
+      go (lower-state g) = g
+      go (lower-symbol g l) = absurd (let b = L .low i h in let z : ⊥ = omega arith in z)
 
   -- a whole row
   next-row : (p y q : ℕ) → Before p y q (terminals c + nonterminals c) → Before p y (q + 1) 1
-  next-row p y q (inl h) = inl (omega arith)
-  next-row p y q (inr h) = inl (let a = h .0 in omega arith)
+  next-row p y q (lower-state h) = lower-state (omega arith)
+  next-row p y q (lower-symbol h l) = lower-state (omega arith)
 
   back-row : (p y q : ℕ) → 0 < y → y < terminals c + nonterminals c → Before p y (q + 1) 1 → Before p y q (terminals c + nonterminals c)
-  back-row p y q l g (inl h) = ⊎-elim (λ (e : p ≡ q). inr (e, g)) (λ (e : p < q). inl e) (eq-or-lt-of-le (let z : p ≤ q = omega arith in z))
-  back-row p y q l g (inr h) = absurd (let a = h .1 in let z : ⊥ = omega arith in z)
+  back-row p y q l g (lower-state h) = ⊎-elim (λ (e : p ≡ q). lower-symbol e g) (λ (e : p < q). lower-state e) (eq-or-lt-of-le (let z : p ≤ q = omega arith in z))
+  back-row p y q l g (lower-symbol h k) = absurd (let z : ⊥ = omega arith in z)
 
   pub row-done : (N : Numbered c n next) (w₀ w : List ℕ) (q x k f : ℕ) → x ≡ terminals c + nonterminals c → Come c next w₀ w q x k f → Come c next w₀ w (q + 1) 1 k f
   unfolding transitionCount count
@@ -380,8 +385,8 @@ module _ (c : List ℕ) (n : ℕ) (next : ℕ → ℕ → ℕ) (t : 1 ≤ termin
   }
     where
       no : (p y : ℕ) → Before p y 0 1 → next p y ≢ 0 → ⊥
-      no p y (inl h) z = omega arith
-      no p y (inr h) z = let a = h .1 in let b = N .low p y z in omega arith
+      no p y (lower-state h) z = omega arith
+      no p y (lower-symbol h l) z = let b = N .low p y z in omega arith
 
 -- ---- the same, by the numbers that the code computes
 

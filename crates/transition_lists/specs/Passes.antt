@@ -1,19 +1,16 @@
 -- The pass over the rows of the table area: what the area holds when the cells before state q and symbol x are passed.
 use Prim.Native.Nat.{ℕ, _+_, _-_, _≤_, _<_}
 use mathlib.Core.Path.{_≡_}
-use mathlib.Core.Logic.{_≢_, _⊎_}
+use mathlib.Core.Logic.{_≢_}
 use mathlib.Core.Bool.{true}
 use mathlib.Core.List.{List}
 use lib.ListN.{length, getD}
 use Rattle.sets.specs.Bit.{count}
 use Rattle.grammar.specs.Card.{terminals}
+use Rattle.tables.specs.Conflicts.{Before}
 use Rattle.transitions.specs.Places.{transitionLimit, startsAt}
 use Rattle.transitions.specs.Area.{leavesOf, nonterminalOf, entersOf, firstOf, enteringOf, precedes}
 use Rattle.transitions.specs.Next.{moves, transitionCount}
-
--- state p and symbol y come before state q and symbol x
-abbrev pub Before : ℕ → ℕ → ℕ → ℕ → Type 0
-Before p y q x = (p < q) ⊎ ((p ≡ q) × (y < x))
 
 -- the nonterminal transitions passed are listed, k of them, in order
 pub record Listing (c : List ℕ) (next : ℕ → ℕ → ℕ) (w : List ℕ) (q x k : ℕ) : Type 0 where

@@ -1,6 +1,6 @@
 use mathlib.Core.Path.{ap, _∙_}
 use mathlib.Core.List.{[]}
-use Rattle.lalr.specs.Generator.{Answer, numbersOf}
+use Rattle.lalr.specs.Answer.{Answer, numbersOf}
 use Rattle.sets.specs.Lists.{covered}
 use borrow.Author.Needs.{needs}
 use Rattle.generator_c.proofs.sidumza_generate.Statement.{statement}

@@ -1,4 +1,5 @@
--- Finite sets of numbers as one number, bit k for the member k; and the least set that a step leaves alone.
+-- Computed, and not to be believed: `reach` is the set of all that the members reach by `reach-only` and `reach-all` of proofs/Reach.antt.
+-- Finite sets of numbers are one number, bit k for the member k; `least` is the least set that a step leaves alone.
 use mathlib.Core.Bool.{Bool, true, false, _&&_}
 use mathlib.Core.List.{List, [], _∷_}
 use Prim.Native.Nat.{ℕ, zero, suc, _+_, _^_}

@@ -1,4 +1,5 @@
--- The nullable, productive and reachable symbols, and FIRST: computed.
+-- Computed, and not to be believed: they are the definition's by `nullable-is`, `productive-is`, `reachable-is` and `first-is` of proofs/Main.antt.
+-- The nullable, productive and reachable symbols, and FIRST.
 use mathlib.Core.Bool.{Bool, true, false, _&&_}
 use mathlib.Core.List.{List, [], _∷_, map}
 use Prim.Native.Nat.{ℕ, zero, suc, _+_, _*_, _-_, _^_, _/_, _%_}
@@ -6,7 +7,7 @@ use lib.Dec.{eqb}
 use Rattle.grammar.specs.Grammar.{Grammar}
 use Rattle.sets.specs.Lists.{each}
 use Rattle.sets.specs.Bit.{bit}
-use Rattle.lalr.specs.Sets.{with′, withAll, sweep, least, reach, when, every, upFrom}
+use Rattle.lalr.specs.ComputedSets.{with′, withAll, sweep, least, reach, when, every, upFrom}
 
 module _ (g : Grammar) where
   abbrev pub size : ℕ

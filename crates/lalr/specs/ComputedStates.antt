@@ -1,4 +1,6 @@
--- Items, closure, advance, the states in the order of the paper, the lookaheads and the actions of a cell: computed.
+-- Computed, and not to be believed: the states are the definition's by `states-are` of proofs/Main.antt, the lookaheads by `facts-only` and `facts-all` of FactLaws.antt,
+-- the actions by `actions-only` and `actions-all` of CellLaws.antt.
+-- Items, closure, advance, the states in the order of the paper, the lookaheads and the actions of a cell.
 use mathlib.Core.Bool.{Bool, true, false, _&&_}
 use mathlib.Core.List.{List, [], _∷_, _++_, map}
 use Prim.Native.Nat.{ℕ, zero, suc, _+_, _*_, _-_, _^_, _/_, _%_}
@@ -7,8 +9,9 @@ use lib.Dec.{eqb, ltb}
 use Rattle.grammar.specs.Grammar.{Grammar}
 use Rattle.sets.specs.Lists.{each}
 use Rattle.sets.specs.Bit.{bit}
-use Rattle.lalr.specs.Sets.{withAll, reach, when}
-use Rattle.lalr.specs.Nonterminals.{nullables, firsts, inFirst}
+use Rattle.tables.specs.Layout.{reduction, accept}
+use Rattle.lalr.specs.ComputedSets.{withAll, reach, when}
+use Rattle.lalr.specs.ComputedNonterminals.{nullables, firsts, inFirst}
 
 -- s in the list of sets: found, or added at the end; and its number
 abbrev pub placeOf : ℕ → List ℕ → ℕ
@@ -127,8 +130,8 @@ module _ (g : Grammar) where
   abbrev pub actions : List (List ℕ) → ℕ → ℕ → ℕ → List ℕ
   actions rows f q a =
       when (isMove (goes rows q a)) (goes rows q a ∷ [])
-      ++ (each g.productions (λ r. when (bit f (fact q (first r + length (g.right r)) a)) ((1024 + r) ∷ []))
-      ++ when (bit f (fact q (first g.productions + 1) a)) (4096 ∷ []))
+      ++ (each g.productions (λ r. when (bit f (fact q (first r + length (g.right r)) a)) (reduction r ∷ []))
+      ++ when (bit f (fact q (first g.productions + 1) a)) (accept ∷ []))
 
 abbrev pub cell : List ℕ → ℕ
 cell [] = 0
