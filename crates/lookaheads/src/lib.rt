@@ -193,12 +193,14 @@ fn rows(c: &[u16], t: &mut [u16], w: &[u32], z: &[u64], keyed: &[u64; 512], n: u
         let found = words(c, w, z, live, state);
         let accept = acceptance(a, q);
         let meet = cells::meeting(p, shifts(z, q), &found, live, accept);
-        m = sets::lowest(meet) as u16;
-        while m < terminals {
-            if sets::has(meet, card::wider(m)) {
-                break 'states;
+        if meet != 0 {
+            m = 0;
+            while m < terminals {
+                if sets::has(meet, card::wider(m)) {
+                    break 'states;
+                }
+                m += 1;
             }
-            m += 1;
         }
         cells::write(t, cells::row(c, q), p, &found, live, accept);
         q += 1;
