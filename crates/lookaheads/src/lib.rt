@@ -142,7 +142,7 @@ fn target(c: &[u16], t: &[u16]) -> u16
     requires { ⌜ rowOf (now c) 0 ≤ tableSize ⌝ }
     ensures { λ r. ⌜ r ≡ getD (now (t .entry)) (rowOf (now (c .entry)) 0 + terminals (now (c .entry))) 0 ⌝ }
 {
-    card::at(t, cells::row(c, 0) + card::wide(card::terminals(c)))
+    card::at(t, areas::row(c, 0) + card::wide(card::terminals(c)))
 }
 
 // The terminals that state q shifts.
@@ -170,7 +170,7 @@ fn conflict(c: &[u16], t: &[u16], w: &[u32], z: &[u64], keyed: &[u64; 512], q: u
     let state = card::wider(q);
     let live = candidates(w, keyed, state);
     let found = words(c, w, z, live, state);
-    let s = card::at(t, cells::row(c, q) + card::wide(m));
+    let s = card::at(t, areas::row(c, card::wide(q)) + card::wide(m));
     let met = cells::pair(p, s, &found, card::wider(m));
     let v = met.lower;
     let u = met.upper;
@@ -202,7 +202,7 @@ fn rows(c: &[u16], t: &mut [u16], w: &[u32], z: &[u64], keyed: &[u64; 512], n: u
                 m += 1;
             }
         }
-        cells::write(t, cells::row(c, q), p, &found, live, accept);
+        cells::write(t, areas::row(c, card::wide(q)), p, &found, live, accept);
         q += 1;
     }
     if q < n {

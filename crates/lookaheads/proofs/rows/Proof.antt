@@ -1,5 +1,5 @@
 use Prim.Native.Nat.{ℕ, _-_, _≤_}
-use mathlib.Core.Path.{sym, _∙_, subst}
+use mathlib.Core.Path.{sym, ap, _∙_, subst}
 use mathlib.Core.Logic.{⊎-elim}
 use native.Mathlib.Omega.{arith}
 use borrow.Author.Needs.{needs}
@@ -8,6 +8,7 @@ use Rattle.transitions.specs.Data.{Ordered}
 use Rattle.lookaheads.proofs.LookLaws.{few, live-as}
 use Rattle.lookaheads.specs.Outcome.{Stands, Rows}
 use Rattle.grammar.specs.Card.{terminals}
+use Rattle.areas.specs.Areas.{rowOf}
 use Rattle.lookaheads.proofs.rows.Statement.{statement}
 use Rattle.lookaheads.proofs.rows.Tie as tie
 
@@ -96,32 +97,33 @@ loop-again c =
 
 row-requires : tie.Need-row-requires Inv-loop μ-loop Inv-states μ-states
 row-requires c κs =
-    let b9 = c .before .before .before .before .before .before .before .before .before in
-    let b20 = b9 .before .before .before .before .before .before .before .before .before .before .before in
-    row-fits _ _ _ (b20 .pre .0 .ordered) _ (omega (arith, b9 .states-test .taken, b20 .pre .0 .numbered .most))
+    let b10 = c .before .before .before .before .before .before .before .before .before .before in
+    let b21 = b10 .before .before .before .before .before .before .before .before .before .before .before in
+    rw (c .wide2 .ensures) (row-fits _ _ _ (b21 .pre .0 .ordered) _ (omega (arith, b10 .states-test .taken, b21 .pre .0 .numbered .most)))
 
 write-requires : tie.Need-write-requires Inv-loop μ-loop Inv-states μ-states
 write-requires c κs =
     let b1 = c .before in
-    let b8 = b1 .before .before .before .before .before .before .before in
-    let b11 = b8 .before .before .before in
-    let b12 = b11 .before in
-    let b15 = b12 .before .before .before in
-    let b16 = b15 .before in
-    let b22 = b16 .before .before .before .before .before .before in
-    let many = b15 .wide .ensures ∙ b16 .productions .ensures in
-    let e = b1 .row .ensures in
-    let o = b22 .pre .0 .ordered in (
+    let b2 = b1 .before in
+    let b9 = b2 .before .before .before .before .before .before .before in
+    let b12 = b9 .before .before .before in
+    let b13 = b12 .before in
+    let b16 = b13 .before .before .before in
+    let b17 = b16 .before in
+    let b23 = b17 .before .before .before .before .before .before in
+    let many = b16 .wide .ensures ∙ b17 .productions .ensures in
+    let e = b1 .row .ensures ∙ ap (rowOf _) (b2 .wide2 .ensures) in
+    let o = b23 .pre .0 .ordered in (
       omega (arith, many, few _ _ _ o),
-      omega (arith, e, row-room _ _ _ o (b12 .states .q) (omega (arith, b11 .states-test .taken, b22 .pre .0 .numbered .most)), b12 .states .inv .1 _ o .long, b22 .pre .0 .table-long),
-      live-as _ _ _ _ many (b8 .words .ensures .0),
+      omega (arith, e, row-room _ _ _ o (b13 .states .q) (omega (arith, b12 .states-test .taken, b23 .pre .0 .numbered .most)), b13 .states .inv .1 _ o .long, b23 .pre .0 .table-long),
+      live-as _ _ _ _ many (b9 .words .ensures .0),
     )
 
 add-q : tie.Need-add-q Inv-loop μ-loop Inv-states μ-states
 add-q c =
-    let b14 = c .before .before .before .before .before .before .before .before .before .before .before .before .before .before in
-    let b25 = b14 .before .before .before .before .before .before .before .before .before .before .before in
-    omega (arith, b14 .states-test .taken, b25 .fits .n)
+    let b15 = c .before .before .before .before .before .before .before .before .before .before .before .before .before .before .before in
+    let b26 = b15 .before .before .before .before .before .before .before .before .before .before .before in
+    omega (arith, b15 .states-test .taken, b26 .fits .n)
 
 states-less : tie.Need-states-less Inv-loop μ-loop Inv-states μ-states
 states-less c = search needs
@@ -130,27 +132,28 @@ states-again : tie.Need-states-again Inv-loop μ-loop Inv-states μ-states
 states-again c =
     let b2 = c .before .before in
     let b4 = b2 .before .before in
-    let b6 = b4 .before .before in
-    let b7 = b6 .before in
-    let b9 = b7 .before .before in
-    let b10 = b9 .before in
+    let b5 = b4 .before in
+    let b7 = b5 .before .before in
+    let b8 = b7 .before in
+    let b10 = b8 .before .before in
     let b11 = b10 .before in
-    let b13 = b11 .before .before in
-    let b14 = b13 .before in
+    let b12 = b11 .before in
+    let b14 = b12 .before .before in
     let b15 = b14 .before in
     let b16 = b15 .before in
-    let b18 = b16 .before .before in
-    let b19 = b18 .before in
+    let b17 = b16 .before in
+    let b19 = b17 .before .before in
     let b20 = b19 .before in
-    let b25 = b20 .before .before .before .before .before in
-    let many = b18 .wide .ensures ∙ b19 .productions .ensures in
-    let none : Clear (b7 .meeting .result) (terminals (b25 .args .c .now)) =
-    ⊎-elim (λ w. clear-below _ _ _ (omega (arith, w .2 .left, b20 .terminals .ensures)) (w .1 .inv)) (λ w. clear-zero _ _ (w .0 .left)) (b6 .if1 .came) in (
+    let b21 = b20 .before in
+    let b26 = b21 .before .before .before .before .before in
+    let many = b19 .wide .ensures ∙ b20 .productions .ensures in
+    let none : Clear (b8 .meeting .result) (terminals (b26 .args .c .now)) =
+    ⊎-elim (λ w. clear-below _ _ _ (omega (arith, w .2 .left, b21 .terminals .ensures)) (w .1 .inv)) (λ w. clear-zero _ _ (w .0 .left)) (b7 .if1 .came) in (
       omega arith,
       λ k o.
-          rows-more _ _ _ _ _ k (b25 .pre .0) o _ _ (b15 .states .inv .1 k o) (b14 .states-test .taken) _ _ _ _
-          (known _ _ _ _ _ k (b25 .pre .0) o _ _ _ _ _ _ _ _ (b14 .states-test .taken) (b13 .wider .ensures) (b16 .target .ensures) many (b9 .shifts .ensures)
-          (b11 .words .ensures .1 k o) (b10 .acceptance .ensures) (b7 .meeting .ensures)) _ _ _ (b4 .row .ensures) many none (b2 .write .ensures),
+          rows-more _ _ _ _ _ k (b26 .pre .0) o _ _ (b16 .states .inv .1 k o) (b15 .states-test .taken) _ _ _ _
+          (known _ _ _ _ _ k (b26 .pre .0) o _ _ _ _ _ _ _ _ (b15 .states-test .taken) (b14 .wider .ensures) (b17 .target .ensures) many (b10 .shifts .ensures)
+          (b12 .words .ensures .1 k o) (b11 .acceptance .ensures) (b8 .meeting .ensures)) _ _ _ (b4 .row .ensures ∙ ap (rowOf _) (b5 .wide2 .ensures)) many none (b2 .write .ensures),
     )
 
 conflict-requires : tie.Need-conflict-requires Inv-loop μ-loop Inv-states μ-states
@@ -228,6 +231,7 @@ rows-spec =
     add-m
     loop-less
     loop-again
+    (λ c κs. search needs)
     row-requires
     write-requires
     add-q
