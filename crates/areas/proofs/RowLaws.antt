@@ -1,4 +1,4 @@
--- The rows of a card's table: one behind the other, and 256 of them within the table area.
+-- The maker's rows: one behind the other, 256 of them within the table area, and where the table has its own.
 use Prim.Native.Nat.{ℕ, _+_, _*_, _≤_, _<_}
 use mathlib.Core.Path.{_≡_, refl}
 use mathlib.Core.List.{List}
@@ -7,17 +7,23 @@ use native.Mathlib.Numerals.{add-one}
 use native.Mathlib.Omega.{arith}
 use Rattle.grammar.specs.Card.{terminals, nonterminals, productions}
 use Rattle.grammar.proofs.CardLaws.{WellFormed}
+use Rattle.tables.specs.Layout.{headerSize, rowAt}
 use Rattle.tables.proofs.Places.{row-within}
 use Rattle.areas.specs.Areas.{tableSize, rowOf}
 
 -- the place by numbers that stand for the card's
-pub row-is : (c : List ℕ) {q t n p s : ℕ} → t ≡ terminals c → n ≡ nonterminals c → p ≡ productions c → s ≡ q → 4 + 2 * p + s * (t + n) ≡ rowOf c q
+pub row-is : (c : List ℕ) (q : ℕ) {t n h : ℕ} → t ≡ terminals c → n ≡ nonterminals c → h ≡ headerSize (productions c) → h + q * (t + n) ≡ rowOf c q
 unfolding rowOf
-row-is c et en ep es = rw (et, en, ep, es) refl
+row-is c q et en eh = rw (et, en, eh) refl
 
-pub row-zero : (c : List ℕ) → rowOf c 0 ≡ 4 + 2 * productions c
+-- the maker's rows stand where the table has them
+pub row-table : (c : List ℕ) (q : ℕ) → rowOf c q ≡ rowAt (productions c) (terminals c + nonterminals c) q
 unfolding rowOf
-row-zero c = omega arith
+row-table c q = refl
+
+pub row-header : (c : List ℕ) (q : ℕ) → headerSize (productions c) ≤ rowOf c q
+unfolding rowOf
+row-header c q = omega arith
 
 pub row-next : (c : List ℕ) (q : ℕ) → rowOf c (q + 1) ≡ rowOf c q + (terminals c + nonterminals c)
 unfolding rowOf
@@ -28,7 +34,7 @@ unfolding rowOf
 row-mono c p q h = let e = row-within (terminals c + nonterminals c) p q h in omega arith
 
 -- the limits of a card: at most 128 productions and 124 symbols
-pub row-most : (c : List ℕ) → WellFormed c → (q n : ℕ) → q ≤ n → rowOf c q ≤ 260 + n * 124
+pub row-most : (c : List ℕ) → WellFormed c → (q n : ℕ) → q ≤ n → rowOf c q ≤ headerSize 128 + n * 124
 unfolding rowOf
 row-most c f q n h =
     let w : terminals c + nonterminals c ≤ 124 = omega (arith, f .limits .terminals-to, f .limits .nonterminals-to) in

@@ -6,10 +6,10 @@ use mathlib.Core.Logic.{_↔_, _≢_, _⊎_, inl, inr, ⊎-elim}
 use mathlib.Core.List.{List, []}
 use native.Mathlib.Omega.{arith}
 use native.Mathlib.Decide.{ℕ-discrete}
-use lib.Count.{trailing-le}
 use lib.ListN.{length, getD}
 use borrow.Author.Tests.{lt-ltb}
-use Rattle.sets.specs.Bit.{bit, Lowest as Lowest-in}
+use Rattle.sets.specs.Bit.{bit}
+use Rattle.sets.proofs.BitLaws.{bit-zero}
 use Rattle.sets.proofs.HasLaws.{lt-or-ge}
 use Rattle.grammar.specs.Card.{terminals, nonterminals, productions}
 use Rattle.grammar.proofs.CardLaws.{well-formed}
@@ -171,8 +171,11 @@ pub record Crossed (A : ℕ → ℕ → ℕ → Type 0) (count terminals q m : �
 abbrev pub Clear : ℕ → ℕ → Type 0
 Clear meet m = (i : ℕ) → i < m → bit meet i ≡ false
 
-pub lowest-most : {meet m : ℕ} → Lowest-in 64 meet m → m ≤ 64
-lowest-most {meet} l = omega (arith, l .value, trailing-le 64 meet)
+pub clear-zero : (meet m : ℕ) → meet ≡ 0 → Clear meet m
+clear-zero meet m e i l = rw e (bit-zero i)
+
+pub clear-below : (meet m x : ℕ) → x ≤ m → Clear meet m → Clear meet x
+clear-below meet m x h none i l = none i (omega arith)
 
 pub clear-more : (meet m m′ : ℕ) (b : Bool) → m′ ≡ m → b ≡ bit meet m′ → b ≡ false → Clear meet m → Clear meet (m + 1)
 clear-more meet m m′ b e f g h i l = ⊎-elim (h i) (λ (d : i ≡ m). ap (bit meet) (d ∙ sym e) ∙ sym f ∙ g) (below-suc i m l)
@@ -248,8 +251,8 @@ module _ (c t₀ w z : List ℕ) (n k : ℕ) (stage : Stage c t₀ w z n) (o : O
         }
 
       -- one row more
-      pub rows-more : (b p m : ℕ) (t′ : List ℕ) → b ≡ rowOf c q → p ≡ productions c → terminals c ≤ m → Clear meet m → Row b p found accept t t′ → Rows c (Stands c t₀ w z n k) (q + 1) t₀ t′
-      rows-more b p m t′ eb ep h none r = rows-one t′ (λ i l. none i (omega arith)) (rw (eb, ep) at r)
+      pub rows-more : (b p : ℕ) (t′ : List ℕ) → b ≡ rowOf c q → p ≡ productions c → Clear meet (terminals c) → Row b p found accept t t′ → Rows c (Stands c t₀ w z n k) (q + 1) t₀ t′
+      rows-more b p t′ eb ep none r = rows-one t′ none (rw (eb, ep) at r)
 
       -- the first cell where two meet
       pub crossed : (m m′ x : ℕ) (b : Bool) → m < x → x ≡ terminals c → m′ ≡ m → b ≡ bit meet m′ → b ≡ true → Clear meet m → Crossed (Stands c t₀ w z n k) n (terminals c) q m

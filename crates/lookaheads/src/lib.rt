@@ -143,7 +143,7 @@ fn target(c: &[u16], t: &[u16]) -> u16
     requires { ⌜ rowOf (now c) 0 ≤ tableSize ⌝ }
     ensures { λ r. ⌜ r ≡ getD (now (t .entry)) (rowOf (now (c .entry)) 0 + terminals (now (c .entry))) 0 ⌝ }
 {
-    card::at(t, cells::row(c, 0) + card::wide(card::terminals(c)))
+    card::at(t, areas::row(c, 0) + card::wide(card::terminals(c)))
 }
 
 // The terminals that state q shifts.
@@ -171,7 +171,7 @@ fn conflict(c: &[u16], t: &[u16], w: &[u32], z: &[u64], keyed: &[u64; 512], q: u
     let state = card::wider(q);
     let live = candidates(w, keyed, state);
     let found = words(c, w, z, live, state);
-    let s = card::at(t, cells::row(c, q) + card::wide(m));
+    let s = card::at(t, areas::row(c, card::wide(q)) + card::wide(m));
     let met = cells::pair(p, s, &found, card::wider(m));
     let v = met.lower;
     let u = met.upper;
@@ -194,14 +194,16 @@ fn rows(c: &[u16], t: &mut [u16], w: &[u32], z: &[u64], keyed: &[u64; 512], n: u
         let found = words(c, w, z, live, state);
         let accept = acceptance(a, q);
         let meet = cells::meeting(p, shifts(z, q), &found, live, accept);
-        m = sets::lowest(meet) as u16;
-        while m < terminals {
-            if sets::has(meet, card::wider(m)) {
-                break 'states;
+        if meet != 0 {
+            m = 0;
+            while m < terminals {
+                if sets::has(meet, card::wider(m)) {
+                    break 'states;
+                }
+                m += 1;
             }
-            m += 1;
         }
-        cells::write(t, cells::row(c, q), p, &found, live, accept);
+        cells::write(t, areas::row(c, card::wide(q)), p, &found, live, accept);
         q += 1;
     }
     if q < n {

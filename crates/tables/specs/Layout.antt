@@ -1,5 +1,5 @@
 -- The layout of a parse table: the sizes Q, T, N, P; two arrays of P numbers, left sides and lengths; then Q rows of T + N cells.
--- Every place of a table is named here and nowhere else. A place past the end reads 0.
+-- Every place of a table is named here and nowhere else; crate tables has the same names in code. A place past the end reads 0.
 use Prim.Native.Nat.{ℕ, _+_, _*_}
 use mathlib.Core.List.{List, [], _∷_, _++_}
 use lib.ListN.{getD}
@@ -22,13 +22,27 @@ productions t = getD t 3 0
 unfoldable pub width : List ℕ → ℕ
 width t = terminals t + nonterminals t
 
+-- the places of a table of p productions: the left side of production r, the length of its right side, the end of the header,
+-- which is the sizes and both arrays, and the first cell
+abbrev pub leftAt : ℕ → ℕ
+leftAt r = 4 + r
+
+abbrev pub lengthAt : ℕ → ℕ → ℕ
+lengthAt p r = 4 + p + r
+
+abbrev pub headerSize : ℕ → ℕ
+headerSize p = 4 + 2 * p
+
+abbrev pub cellsAt : ℕ → ℕ
+cellsAt p = headerSize p
+
 -- the left side of production r
 unfoldable pub leftOf : List ℕ → ℕ → ℕ
-leftOf t r = getD t (4 + r) 0
+leftOf t r = getD t (leftAt r) 0
 
 -- the length of the right side of production r
 unfoldable pub lengthOf : List ℕ → ℕ → ℕ
-lengthOf t r = getD t (4 + productions t + r) 0
+lengthOf t r = getD t (lengthAt (productions t) r) 0
 
 -- the values of a terminal's cell: "0 is wrong, 1 to Q−1 shifts to that state, 1,024+r reduces by rule r, 4,096 accepts"
 abbrev pub reduction : ℕ → ℕ
@@ -39,7 +53,7 @@ accept = 4096
 
 -- where the row of state q begins in a table of p productions with rows of w cells, which is the size of such a table of q states
 abbrev pub rowAt : ℕ → ℕ → ℕ → ℕ
-rowAt p w q = 4 + 2 * p + q * w
+rowAt p w q = cellsAt p + q * w
 
 -- the cell of state q and symbol x
 unfoldable pub cellOf : List ℕ → ℕ → ℕ → ℕ

@@ -17,8 +17,7 @@ fn row_at(c: &[u16], q: u32) -> usize
     requires { ⌜ (formFault (now c) ≡ 0) × (q < 256) ⌝ }
     ensures { λ r. ⌜ (r ≡ rowOf (now (c .entry)) q) × (r < 65536) ⌝ }
 {
-    let width = card::wide(card::terminals(c)) + card::wide(card::nonterminals(c));
-    4 + 2 * card::wide(card::productions(c)) + card::wide32(q) * width
+    areas::row(c, card::wide32(q))
 }
 
 // Notes at state v a transition by x from state q.
