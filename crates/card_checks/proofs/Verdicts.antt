@@ -6,7 +6,7 @@ use mathlib.Core.List.{List, [], _∷_}
 use Prim.Native.Nat.{ℕ, _+_, _*_, _≤_, _<_}
 use native.Mathlib.Omega.{arith}
 use native.Mathlib.Decide.{decLt}
-use lib.ListN.{length}
+use lib.ListN.{length, getD}
 use lib.Dec.{leb, eqb}
 use Rattle.sets.specs.Lists.{covered}
 use Rattle.sets.specs.Tests.{unless}
@@ -107,7 +107,7 @@ numbers-tell (Refused SumWrong) = refl
 numbers-tell (Refused SymbolWrong) = refl
 numbers-tell (Refused (Useless x)) = refl
 
-pub told-apart : (r s : Verdict) → verdictNumbers r ≡ verdictNumbers s → r ≡ s
+told-apart : (r s : Verdict) → verdictNumbers r ≡ verdictNumbers s → r ≡ s
 told-apart r s e = sym (numbers-tell r) ∙ ap verdictOf e ∙ numbers-tell s
 
 -- a card has not two verdicts
@@ -115,8 +115,14 @@ pub one-verdict : (c : List ℕ) (r s : Verdict) → Checked c (verdictNumbers r
 one-verdict c r s h k = told-apart r s (same-numbers c h k)
 
 -- a refusal is not told as a card that passed
-pub refusal-some : (e : Refusal) → 0 ∷ [] ≢ refusalNumbers e
-refusal-some e h = let k : Passed ≡ Refused e = told-apart Passed (Refused e) h in let z : _≡_ {A = ℕ} 0 1 = cc in omega arith
+pub refusal-some : (e : Refusal) → 0 < getD (refusalNumbers e) 0 0
+refusal-some CardShort = omega arith
+refusal-some SizesWrong = omega arith
+refusal-some LengthWrong = omega arith
+refusal-some LeftWrong = omega arith
+refusal-some SumWrong = omega arith
+refusal-some SymbolWrong = omega arith
+refusal-some (Useless x) = omega arith
 
 -- a card that passed
 pub passes : (c : List ℕ) → Checked c (0 ∷ []) → (formFault c ≡ 0) × ((x : ℕ) → Nonterminal (grammarOf c) x → Useful (grammarOf c) x)
