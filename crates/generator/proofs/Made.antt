@@ -1,9 +1,9 @@
 -- The answers of `make`, from what each phase leaves.
-use mathlib.Core.Path.{_≡_, refl, sym, ap, _∙_}
+use mathlib.Core.Path.{_≡_, refl, ap, _∙_}
 use mathlib.Core.List.{List, [], _∷_}
-use Prim.Native.Nat.{ℕ, _+_, _≤_, _<_}
+use Prim.Native.Nat.{ℕ, _≤_, _<_}
 use native.Mathlib.Omega.{arith}
-use lib.ListN.{length, getD}
+use lib.ListN.{length}
 use Rattle.sets.specs.Lists.{covered}
 use Rattle.grammar.specs.Card.{terminals, formFault, grammarOf}
 use Rattle.grammar.specs.Grammar.{Derives}
@@ -11,7 +11,6 @@ use Rattle.areas.specs.Areas.{tableSize, wordsSize, halvesSize}
 use Rattle.lr.proofs.ItemLaws.{all-productive}
 use Rattle.lr.specs.States.{States, MoreStates}
 use Rattle.lalr.specs.Answer.{made, refused, conflict}
-use Rattle.lalr.specs.ComputedAnswer.{tableOf}
 use Rattle.lalr.specs.Generator.{generated}
 use Rattle.lalr.specs.Meaning.{AllUseful}
 use Rattle.lalr.specs.Demand2.{Room}
@@ -22,13 +21,10 @@ use Rattle.automaton.specs.Outcome.{Outcome, few, many}
 use Rattle.automaton.proofs.Outcomes.{outcome}
 use Rattle.transitions.specs.Places.{transitionLimit}
 use Rattle.transitions.specs.Next.{nextOf, Numbered}
-use Rattle.transitions.specs.Data.{Data}
 use Rattle.transitions.specs.Data as lists
-use Rattle.cells.specs.Areas.{Tabled}
 use Rattle.lookaheads.specs.Outcome.{Stage, Filled}
-use Rattle.lookaheads.specs.Outcome as rows
 use Rattle.lookaheads.specs.declared.Clash.the-variants.{Free, At}
-use Rattle.generator.specs.declared.Answer.the-variants.{Table, Refused, Conflict}
+use Rattle.generator.specs.declared.Answer.the-variants.{Table, ManyStates, ManyTransitions, Conflict}
 use Rattle.generator.specs.Answer.{GeneratesAs}
 use Rattle.generator.specs.Phases.{Cleared, Complete}
 use Rattle.generator.proofs.Laws.{covered-same, covers-all, eleven, twelve, thirteen, table-made, the-table, numbers-states}
@@ -55,9 +51,9 @@ module _ (t₀ z₀ w₀ c : List ℕ) (o : Room t₀ z₀ w₀) (f : formFault 
     same-words = covered-same wordsSize [] z₀ z₁ lz (λ i h. b .sets-kept .kept i (omega arith))
 
     -- refusal 11
-    pub eleven-met : {t z w : List ℕ} → 256 < n → Cleared t₁ z₁ w₁ t z w → GeneratesAs (generated t₀ z₀ w₀ c) (Refused 11) t z w
+    pub eleven-met : {t z w : List ℕ} → 256 < n → Cleared t₁ z₁ w₁ t z w → GeneratesAs (generated t₀ z₀ w₀ c) ManyStates t z w
     eleven-met {t} {z} {w} h cl =
-        covers-all t₀ z₀ w₀ c (refused 11) (Refused 11) t z w (eleven t₀ z₀ w₀ c o f u (more c t₁ n after h)) refl refl
+        covers-all t₀ z₀ w₀ c (refused 11) ManyStates t z w (eleven t₀ z₀ w₀ c o f u (more c t₁ n after h)) refl refl
         (cl .table ∙ same-table [])
         (cl .words ∙ same-words)
         (cl .halves ∙ covered-same halvesSize [] w₀ w₁ lw (λ i k. b .words-kept .kept i (omega arith)))
@@ -74,9 +70,9 @@ module _ (t₀ z₀ w₀ c : List ℕ) (o : Room t₀ z₀ w₀) (f : formFault 
         same-halves = covered-same halvesSize [] w₀ w₂ (l .long ∙ lw) (λ i h. l .rest i (omega arith) ∙ b .words-kept .kept i (omega arith))
 
         -- refusal 12
-        pub twelve-met : {t z w : List ℕ} → transitionLimit < k → Cleared t₁ z₁ w₂ t z w → GeneratesAs (generated t₀ z₀ w₀ c) (Refused 12) t z w
+        pub twelve-met : {t z w : List ℕ} → transitionLimit < k → Cleared t₁ z₁ w₂ t z w → GeneratesAs (generated t₀ z₀ w₀ c) ManyTransitions t z w
         twelve-met {t} {z} {w} h cl =
-            covers-all t₀ z₀ w₀ c (refused 12) (Refused 12) t z w (twelve t₀ z₀ w₀ c o f u t₁ n small (found c t₁ n after small) k (l .count) h) refl refl
+            covers-all t₀ z₀ w₀ c (refused 12) ManyTransitions t z w (twelve t₀ z₀ w₀ c o f u t₁ n small (found c t₁ n after small) k (l .count) h) refl refl
             (cl .table ∙ same-table [])
             (cl .words ∙ same-words)
             (cl .halves ∙ same-halves)

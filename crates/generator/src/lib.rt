@@ -1,8 +1,9 @@
 // Makes the parse table of a grammar card, or refuses it.
 ghost use mathlib.Core.Path.{_≡_};
-ghost use mathlib.Core.List.{List};
+ghost use mathlib.Core.List.{[]};
 ghost use Prim.Native.Nat.{ℕ, _≤_, _<_};
 ghost use lib.ListN.{length};
+ghost use Rattle.sets.specs.Lists.{covered};
 ghost use Rattle.grammar.specs.Card.{formFault, grammarOf};
 ghost use Rattle.areas.specs.Areas.{wordsSize};
 ghost use Rattle.transitions.specs.Next.{nextOf, Numbered};
@@ -10,17 +11,43 @@ ghost use Rattle.transitions.specs.Data.{Data};
 ghost use Rattle.lalr.specs.Generator.{generated};
 ghost use Rattle.lalr.specs.Meaning.{AllUseful};
 ghost use Rattle.lalr.proofs.Finish.{Room};
-ghost use Rattle.generator.specs.Answer.{GeneratesAs};
+ghost use Rattle.generator.specs.Answer.{numbers as answerNumbers, GeneratesAs};
 ghost use Rattle.generator.specs.Phases.{Cleared, Complete};
+use card_checks::Refusal;
+use card_checks::Verdict;
 use lookaheads::Clash;
 use relations::Relation;
 
-// A table; a refusal with its number alone; 10 with the nonterminal; 13 with state, terminal and the two lowest values.
+// A table, or a refusal; `numbers` gives the paper's number and values of each.
 pub enum Answer {
     Table,
-    Refused(u16),
-    Useless(u16),
+    TableShort,
+    WordsShort,
+    HalvesShort,
+    Card(Refusal),
+    ManyStates,
+    ManyTransitions,
+    // The state, the terminal and the two lowest values that meet.
     Conflict(u16, u16, u16, u16),
+}
+
+// The paper's number and values of an answer, and zeros behind them.
+pub fn numbers(a: Answer) -> [u16; 5]
+    ensures { λ r. ⌜ r ≡ covered 5 (answerNumbers a) [] ⌝ }
+{
+    match a {
+        Answer::Table => [0, 0, 0, 0, 0],
+        Answer::TableShort => [1, 0, 0, 0, 0],
+        Answer::WordsShort => [2, 0, 0, 0, 0],
+        Answer::HalvesShort => [3, 0, 0, 0, 0],
+        Answer::Card(e) => {
+            let n = card_checks::numbers(e);
+            [n[0], n[1], 0, 0, 0]
+        }
+        Answer::ManyStates => [11, 0, 0, 0, 0],
+        Answer::ManyTransitions => [12, 0, 0, 0, 0],
+        Answer::Conflict(q, m, v, u) => [13, q, m, v, u],
+    }
 }
 
 // Zeros all three areas over the lengths given.
@@ -52,13 +79,13 @@ fn make(c: &[u16], t: &mut [u16], z: &mut [u64], w: &mut [u32]) -> Answer
     let n = states::states(c, t, z, w);
     if 256 < n {
         clear(t, z, w);
-        return Answer::Refused(11);
+        return Answer::ManyStates;
     }
     let e = nonterminals::nullable(c);
     let k = transition_lists::build(c, t, w, n as u32, e);
     if transitions::LIMIT < k {
         clear(t, z, w);
-        return Answer::Refused(12);
+        return Answer::ManyTransitions;
     }
     walk(c, t, w, z, n as u32, k);
     let clash = lookaheads::fill(c, t, w, z, n as u16);
@@ -73,21 +100,17 @@ pub fn generate(card: &[u16], table: &mut [u16], words: &mut [u64], halves: &mut
     ensures { λ r. ⌜ GeneratesAs (generated (now (table .entry)) (now (words .entry)) (now (halves .entry)) (now (card .entry))) r (now (table .exit)) (now (words .exit)) (now (halves .exit)) ⌝ }
 {
     if table.len() < areas::TABLE {
-        return Answer::Refused(1);
+        return Answer::TableShort;
     }
     if words.len() < areas::WORDS {
-        return Answer::Refused(2);
+        return Answer::WordsShort;
     }
     if halves.len() < areas::HALVES {
-        return Answer::Refused(3);
+        return Answer::HalvesShort;
     }
-    let fault = card::form_fault(card);
-    if fault != 0 {
-        return Answer::Refused(fault);
+    let verdict = card_checks::check(card);
+    match verdict {
+        Verdict::Refused(e) => Answer::Card(e),
+        Verdict::Passed => make(card, table, words, halves),
     }
-    let x = nonterminals::useless(card);
-    if x < card::terminals(card) + card::nonterminals(card) {
-        return Answer::Useless(x);
-    }
-    make(card, table, words, halves)
 }

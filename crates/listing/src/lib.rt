@@ -10,6 +10,9 @@ use decimal::number;
 use decimal::put;
 use decimal::word;
 
+// So many bytes hold the text of every table within the limits.
+pub const TEXT: usize = 195114;
+
 // The number at place i, and 0 past the end.
 fn at(s: &[u16], i: usize) -> usize
     ensures { λ r. ⌜ (r ≡ getD (now (s .entry)) i 0) × (r < 65536) ⌝ }

@@ -1,4 +1,4 @@
--- What is printed of a card is told by the card alone, fits a buffer of 195,114 bytes, and reads back.
+-- What is printed of a card is told by the card alone, fits a buffer of `textSize` bytes, and reads back.
 use mathlib.Core.Path.{_≡_, refl, sym, ap, _∙_}
 use mathlib.Core.List.{List}
 use Prim.Native.Nat.{ℕ, _≤_}
@@ -13,7 +13,7 @@ use Rattle.lalr.specs.Generator.{answerOf, generated}
 use Rattle.lalr.proofs.AreaLaws.{made-area}
 use Rattle.lalr.proofs.Main.{card-table, table-words}
 use Rattle.lalr.proofs.TableLaws.{made-of, the-form}
-use Rattle.listing.specs.Listing.{tableText, refusalText}
+use Rattle.listing.specs.Listing.{tableText, refusalText, textSize}
 use Rattle.listing.specs.Numbers.{numbersIn}
 use Rattle.listing.proofs.ReadBack.{table-back-whole, refusal-back}
 use Rattle.listing.proofs.Room.{table-room, refusal-room}
@@ -26,7 +26,7 @@ unfolding responseText
 refusal-text a t r = rw (ne-eqb (getD (numbersOf a) 0 0) 0 (λ e. omega (arith, r .some))) refl
 
 module _ (c : List ℕ) (m : cardAnswer c ≡ made) where
-  table-most : length (tableText (tableOf c)) ≤ 195114
+  table-most : length (tableText (tableOf c)) ≤ textSize
   unfolding width
   table-most =
       let z = card-table c m .sizes in
@@ -52,11 +52,11 @@ card-text t z w c h i j = ap (λ (a : Answer). responseText (numbersOf a) (gener
     go e (line a r) = refusal-text a _ r ∙ sym (refusal-text a _ r)
 
 -- and the text fits
-pub card-room : (c : List ℕ) → length (cardText c) ≤ 195114
+pub card-room : (c : List ℕ) → length (cardText c) ≤ textSize
 unfolding cardText responseText
 card-room c = go refl (answer-printed c)
   where
-    go : {a : Answer} → cardAnswer c ≡ a → Printed a → length (responseText (numbersOf a) (tableOf c)) ≤ 195114
+    go : {a : Answer} → cardAnswer c ≡ a → Printed a → length (responseText (numbersOf a) (tableOf c)) ≤ textSize
     go e table = table-most c e
     go e (line a r) = rw (refusal-text a (tableOf c) r) (let b = refusal-room (numbersOf a) (small (r .words)) (r .few) in omega arith)
 

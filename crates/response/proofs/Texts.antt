@@ -21,10 +21,6 @@ module _ (out t ns : List ℕ) (p : Page) where
   unfolding responseText
   prints-refusal h e = rw (ne-eqb (getD ns 0 0) 0 h) e
 
-  -- the same numbers have the same text
-  pub prints-same : (ms : List ℕ) → ns ≡ ms → p ≡ page out (responseText ms t) → p ≡ page out (responseText ns t)
-  prints-same ms f e = rw f e
-
 -- an answer of the maker, and its text
 pub replies : (g : Generated) (a : Answer) (t z w before after : List ℕ) (n : ℕ) → GeneratesAs g a t z w
     → pageOf after n ≡ page before (responseText (numbers a) t) → RepliesAs g before after n t z w
