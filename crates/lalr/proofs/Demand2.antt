@@ -49,7 +49,7 @@ module _ (t z w c : List ℕ) (o : Room t z w) (h : formFault c ≡ 0) where
   demand-2 = record { answer = answer-judged; areas = leaves (out .answer) answer-judged refl }
 
 -- nothing else meets it: the demand leaves one answer, and one content of each area
-same-generated : (a b : Generated) → a .answer ≡ b .answer → a .table ≡ b .table → a .words ≡ b .words → a .halves ≡ b .halves → a ≡ b
+pub same-generated : (a b : Generated) → a .answer ≡ b .answer → a .table ≡ b .table → a .words ≡ b .words → a .halves ≡ b .halves → a ≡ b
 same-generated a b i j k l = rebuilt (a .answer) (b .answer) i (a .table) (b .table) j (a .words) (b .words) k (a .halves) (b .halves) l
   where
     rebuilt : (x x′ : Answer) → x ≡ x′ → (t t′ : List ℕ) → t ≡ t′ → (z z′ : List ℕ) → z ≡ z′ → (w w′ : List ℕ) → w ≡ w′

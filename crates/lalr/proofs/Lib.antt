@@ -18,4 +18,5 @@ pub mod AreaLaws
 pub mod OrderLaws
 pub mod Finish
 pub mod Demand2
+pub mod Generates
 pub mod AnswerLaws

@@ -2,6 +2,7 @@ pub mod Answer
 pub mod Meaning
 pub mod Generator
 pub mod Demand2
+pub mod Generates
 pub mod ComputedSets
 pub mod ComputedNonterminals
 pub mod ComputedStates
