@@ -9,10 +9,11 @@ use Rattle.decimal.specs.declared.scanner.Scan.{Scan}
 use Rattle.decimal.specs.declared.scanner.Scan.the-variants.{Between}
 use Rattle.decimal.specs.declared.scanner.Found.{Found}
 use Rattle.decimal.specs.declared.scanner.Found.the-variants.{Numbers, NotACard}
+use Rattle.decimal.specs.Form.{Card}
 use Rattle.decimal.specs.Scanning.{Fed, fedOf, fed, foundOf, Within}
 use Rattle.decimal.proofs.Chunks.{fed-append}
 use Rattle.decimal.proofs.Scanned.{finished-room, finished-card, finished-none}
-use Rattle.card_input.specs.Reading.{cardSize, CardCame, OtherCame, Some}
+use Rattle.card_input.specs.Reading.{cardSize, CardCame, Some}
 
 pub none : (f : Fed) → Some f f
 unfolding fed
@@ -25,13 +26,13 @@ pub stayed : (f : Fed) (a b : List ℕ) (s : Scan) → b ≡ a → Some f (fedOf
 stayed f a b s e x = rw e x
 
 -- a scan that ended, and what `finish` says of it
-module _ (s : Scan) (r : Found) (told : r ≡ foundOf s) (a b : List ℕ) (room : length a ≡ cardSize) (came : Some (fedOf a (Between 0)) (fedOf b s)) where
-  pub card-came : (n : ℕ) → r ≡ Numbers n → Within r → CardCame b n
+module _ (s : Scan) (r : Found) (told : r ≡ foundOf s) (a b bs : List ℕ) (room : length a ≡ cardSize) (came : fedOf b s ≡ fed (fedOf a (Between 0)) bs) where
+  pub card-came : (n : ℕ) → r ≡ Numbers n → Within r → CardCame bs b n
   card-came n e h =
       let k : n ≤ cardSize = rw e at h in
-      let l : length b ≡ cardSize = finished-room a b (came .0) s room (came .1) in
+      let l : length b ≡ cardSize = finished-room a b bs s room came in
       let u : n ≤ length b = omega arith in
-      record { bytes = came .0; card = finished-card a b (came .0) s room (came .1) n (sym told ∙ e); used = (u, sym (length-take-le n b u)) }
+      record { card = finished-card a b bs s room came n (sym told ∙ e); used = (u, sym (length-take-le n b u)) }
 
-  pub other-came : r ≡ NotACard → OtherCame
-  other-came e = record { bytes = came .0; other = finished-none a b (came .0) s room (came .1) (sym told ∙ e) }
+  pub other-came : r ≡ NotACard → (ns : List ℕ) → Card bs ns → ⊥
+  other-came e = finished-none a b bs s room came (sym told ∙ e)

@@ -19,22 +19,16 @@ use Rattle.card_input.specs.declared.Input.the-variants as input
 abbrev pub cardSize : ℕ
 cardSize = 772
 
--- the first n numbers of the area are those of an input that is a card
-pub record CardCame (area : List ℕ) (n : ℕ) : Type 0 where
-  pub bytes : List ℕ
-  pub card : Card bytes (take n area)
+-- the input bs is a card, and the first n numbers of the area are its numbers
+pub record CardCame (bs area : List ℕ) (n : ℕ) : Type 0 where
+  pub card : Card bs (take n area)
   pub used : Used n area
 
--- "input of other form, or over 772 numbers"
-pub record OtherCame : Type 0 where
-  pub bytes : List ℕ
-  pub other : (ns : List ℕ) → Card bytes ns → ⊥
-
--- the answer to the bytes that came, with the area behind them
-abbrev pub Came : List ℕ → Input → Type 0
-Came area (input.Card n) = CardCame area n
-Came area input.NotACard = OtherCame
-Came area input.Failed = Unit {0}
+-- the answer to the input bs, with the area behind it; "input of other form, or over 772 numbers" is no card
+abbrev pub Came : List ℕ → List ℕ → Input → Type 0
+Came bs area (input.Card n) = CardCame bs area n
+Came bs area input.NotACard = (ns : List ℕ) → Card bs ns → ⊥
+Came bs area input.Failed = Unit {0}
 
 -- ---- private functions cite these
 

@@ -5,8 +5,8 @@ ghost use mathlib.Core.List.{List, _++_};
 ghost use Prim.Native.Nat.{ℕ};
 ghost use lib.ListN.{length};
 ghost use Rattle.decimal.specs.Page.{pageOf, page, Used};
-ghost use Rattle.decimal.specs.Scanning.{fedOf};
-ghost use Rattle.card_input.specs.Reading.{cardSize, Some, Taken, Scanned, Came};
+ghost use Rattle.decimal.specs.Scanning.{fedOf, fed};
+ghost use Rattle.card_input.specs.Reading.{cardSize, Taken, Scanned, Came};
 use decimal::Found;
 use decimal::Scan;
 
@@ -87,9 +87,9 @@ fn read_all(name: &[u8], card: &mut [u16; CARD]) -> Whole
     Whole::Failed
 }
 
-// What the end of the input makes of a scan.
+// What the end of the input makes of a scan, whatever bytes it was fed.
 fn ended(s: Scan) -> Input
-    ensures { λ r. ⌜ ((a b : List ℕ) → length a ≡ cardSize → Some (fedOf a (Scan.Between 0)) (fedOf b s) → Came b r) ⌝ }
+    ensures { λ r. ⌜ ((a b bs : List ℕ) → length a ≡ cardSize → fedOf b s ≡ fed (fedOf a (Scan.Between 0)) bs → Came bs b r) ⌝ }
 {
     let found = decimal::finish(s);
     match found {
@@ -102,7 +102,7 @@ fn ended(s: Scan) -> Input
 // length every array of this type has.
 pub fn read(name: &[u8], card: &mut [u16; CARD]) -> Input
     requires { ⌜ length (now card) ≡ cardSize ⌝ }
-    ensures { λ r. ⌜ Came (now (card .exit)) r ⌝ }
+    ensures { λ r. ⌜ ((bs : List ℕ) × Came bs (now (card .exit)) r) ⌝ }
 {
     let all = read_all(name, card);
     match all {

@@ -1,12 +1,13 @@
 -- The numbers of an answer tell the answer: no refusal with its number alone has the number of another kind.
 use mathlib.Core.Path.{_≡_, refl, sym, ap, _∙_}
-use mathlib.Core.Bool.{Bool, true, false}
+use mathlib.Core.Bool.{Bool, true, false, cond}
 use mathlib.Core.Logic.{_≢_}
 use mathlib.Core.List.{List, [], _∷_}
 use Prim.Native.Nat.{ℕ, zero, suc, _≤_, _<_}
 use native.Mathlib.Omega.{arith}
-use lib.ListN.{length}
-use lib.Dec.{ltb}
+use lib.ListN.{length, getD}
+use lib.Dec.{ltb, eqb}
+use borrow.Author.Tests.{ne-eqb}
 use Rattle.grammar.specs.Grammar.{Grammar}
 use Rattle.grammar.specs.Card.{formFault}
 use Rattle.grammar.proofs.CardLaws.{fault-most}
@@ -51,32 +52,20 @@ answer-proper t z w c = go (ltb (length t) tableSize) refl (ltb (length z) words
     go false i false j true k = rw (i, answerOf, j, k) (few 3 (omega arith) (omega arith))
     go false i false j false k = rw (i, answerOf, j, k) (card-proper c)
 
--- the first number
-head : {n m : ℕ} {ns ms : List ℕ} → n ∷ ns ≡ m ∷ ms → n ≡ m
-head e = cc
+-- the answer of its numbers
+abbrev answerBy : List ℕ → Answer
+answerBy ns =
+    cond (eqb (length ns) 1) (cond (eqb (getD ns 0 0) 0) made (refused (getD ns 0 0)))
+    (cond (eqb (length ns) 2) (uselessAt (getD ns 1 0)) (conflict (getD ns 1 0) (getD ns 2 0) (getD ns 3 0) (getD ns 4 0)))
+
+numbers-tell : {a : Answer} → Proper a → answerBy (numbersOf a) ≡ a
+numbers-tell a-table = refl
+numbers-tell (alone n h k l) = rw (ne-eqb n 0 h) refl
+numbers-tell at-nonterminal = refl
+numbers-tell at-cell = refl
 
 pub numbers-one : {a b : Answer} → Proper a → Proper b → numbersOf a ≡ numbersOf b → a ≡ b
-numbers-one a-table a-table e = refl
-numbers-one a-table (alone n h k l) e = absurd (h (sym (head e)))
-numbers-one a-table at-nonterminal e = absurd (omega (arith, head e))
-numbers-one a-table at-cell e = absurd (omega (arith, head e))
-numbers-one (alone n h k l) a-table e = absurd (h (head e))
-numbers-one (alone n h k l) (alone m h′ k′ l′) e = ap refused (head e)
-numbers-one (alone n h k l) at-nonterminal e = absurd (k (head e))
-numbers-one (alone n h k l) at-cell e = absurd (l (head e))
-numbers-one at-nonterminal a-table e = absurd (omega (arith, head e))
-numbers-one at-nonterminal (alone n h k l) e = absurd (k (sym (head e)))
-numbers-one (at-nonterminal {x}) (at-nonterminal {x = y}) e = let z : x ≡ y = cc in ap uselessAt z
-numbers-one at-nonterminal at-cell e = absurd (omega (arith, head e))
-numbers-one at-cell a-table e = absurd (omega (arith, head e))
-numbers-one at-cell (alone n h k l) e = absurd (l (sym (head e)))
-numbers-one at-cell at-nonterminal e = absurd (omega (arith, head e))
-numbers-one (at-cell {q} {m} {v} {w}) (at-cell {q = q′} {m = m′} {v = v′} {w = w′}) e =
-    let i : q ≡ q′ = cc in
-    let j : m ≡ m′ = cc in
-    let k : v ≡ v′ = cc in
-    let l : w ≡ w′ = cc in
-    rw (i, j, k, l) refl
+numbers-one p q e = sym (numbers-tell p) ∙ ap answerBy e ∙ numbers-tell q
 
 pub made-by-number : (t z w c : List ℕ) → numbersOf (generated t z w c .answer) ≡ 0 ∷ [] → generated t z w c .answer ≡ made
 made-by-number t z w c e = numbers-one (answer-proper t z w c) a-table e

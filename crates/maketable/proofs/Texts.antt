@@ -6,7 +6,9 @@ use Prim.Native.Nat.{ℕ, _≤_}
 use native.Mathlib.Omega.{arith}
 use lib.ListN.{length, take, replicate, length-replicate}
 use Rattle.areas.specs.Areas.{tableSize, wordsSize, halvesSize}
-use Rattle.card_input.specs.Reading.{cardSize, CardCame, OtherCame}
+use Rattle.card_input.specs.Reading.{cardSize, CardCame, Came}
+use Rattle.card_input.specs.declared.Input.{Input}
+use Rattle.card_input.specs.declared.Input.the-variants as input
 use Rattle.decimal.specs.Form.{Card}
 use Rattle.decimal.specs.Page.{pageOf, page}
 use Rattle.decimal.specs.Scanning.{scanned}
@@ -16,7 +18,7 @@ use Rattle.listing.specs.Listing.{notACard, textSize}
 use Rattle.lalr.specs.Generator.{generated}
 use Rattle.response.specs.Response.{cardText, RepliesAs}
 use Rattle.response.proofs.Whole.{reply-whole}
-use Rattle.maketable.specs.Printed.{Prints, card, other}
+use Rattle.maketable.specs.Printed.{Prints, card, other, Answers}
 
 abbrev pub zeros : ℕ → List ℕ
 zeros n = replicate n 0
@@ -32,13 +34,12 @@ pub reply-text : (c before out : List ℕ) (n : ℕ) {t z w : List ℕ} → Repl
     → textSize ≤ length before → take n out ≡ cardText c
 reply-text c before out n r h = reply-whole (zeros tableSize) (zeros wordsSize) (zeros halvesSize) c before out n r (zeros-long tableSize) (zeros-long wordsSize) (zeros-long halvesSize) h
 
--- the text of a card that came
-pub card-printed : {area : List ℕ} {n : ℕ} {text : List ℕ} → CardCame area n → text ≡ cardText (take n area) → (bs : List ℕ) × Prints bs text
-card-printed h e = (h .bytes, rw e (card (h .card)))
+-- the text for what was read: a card's numbers, or another input, in the program's buffer
+pub card-answers : {bs area : List ℕ} {n : ℕ} {text : List ℕ} → CardCame bs area n → text ≡ cardText (take n area) → Prints bs text
+card-answers h e = rw e (card (h .card))
 
--- the text of another input, in the program's buffer
-pub other-printed : (out : List ℕ) (n : ℕ) → OtherCame → pageOf out n ≡ page (zeros textSize) notACard → (bs : List ℕ) × Prints bs (take n out)
-other-printed out n h e = (h .bytes, rw (page-text (zeros textSize) notACard out n e (omega (arith, zeros-long textSize))) (other (h .other)))
+pub other-answers : (i : Input) (bs area before out : List ℕ) (n : ℕ) → i ≡ input.NotACard → pageOf out n ≡ page before notACard → textSize ≤ length before → Came bs area i → Answers bs i (take n out)
+other-answers i bs area before out n e k l came = let h = rw e at came in rw (e, page-text before notACard out n k (omega arith)) (other h)
 
 module _ (bs : List ℕ) where
   one-card : {c d : List ℕ} → Card bs c → Card bs d → c ≡ d

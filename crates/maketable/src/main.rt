@@ -6,7 +6,8 @@ ghost use lib.ListN.{length, take};
 ghost use Rattle.decimal.specs.Page.{Used};
 ghost use Rattle.listing.specs.Listing.{textSize};
 ghost use Rattle.response.specs.Response.{cardText};
-ghost use Rattle.maketable.specs.Printed.{Prints};
+ghost use Rattle.card_input.specs.Reading.{Came};
+ghost use Rattle.maketable.specs.Printed.{Answers};
 use card_input::Input;
 
 // The text of a card, in a buffer that is long enough.
@@ -20,9 +21,10 @@ fn reply(card: &[u16], out: &mut [u8]) -> usize
     response::reply(card, &mut table, &mut words, &mut halves, out)
 }
 
-// The one place that writes to standard output: the whole text for an input.
-fn print(text: &[u8])
-    requires { ⌜ ((bs : List ℕ) × Prints bs (now text)) ⌝ }
+// The one place that writes to standard output: the whole text for what was read. Whatever bytes
+// came, the text is theirs.
+fn print(card: &[u16; card_input::CARD], input: Input, text: &[u8])
+    requires { ⌜ ((bs : List ℕ) → Came bs (now card) input → Answers bs input (now text)) ⌝ }
 {
     card_input::print(b"maketable", text);
 }
@@ -34,11 +36,11 @@ fn main() {
     match input {
         Input::Card(n) => {
             let k = reply(&card[..n], &mut out);
-            print(&out[..k]);
+            print(&card, input, &out[..k]);
         }
         Input::NotACard => {
             let k = listing::not_a_card(&mut out);
-            print(&out[..k]);
+            print(&card, input, &out[..k]);
         }
         Input::Failed => {}
     }
