@@ -11,7 +11,7 @@ use Rattle.claim.proofs.Means.{Limits}
 use Rattle.claim.proofs.Delivered.{claim}
 use Rattle.lalr.specs.Answer.{made}
 use Rattle.lalr.specs.ComputedAnswer.{cardAnswer, tableOf}
-use Rattle.lalr.specs.Generator.{answerOf, generated}
+use Rattle.lalr.specs.ComputedGenerator.{answerOf, generated}
 use Rattle.lalr.proofs.AreaLaws.{made-area}
 use Rattle.lalr.proofs.TableLaws.{Made, made-of, table-is, the-form, the-formed, the-productive}
 use Rattle.lalr.proofs.OrderLaws.{card-made}

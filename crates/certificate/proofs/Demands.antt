@@ -2,7 +2,7 @@
 -- and `reading` (the reader: parse, sidumza_parse). A terminal is the papers' mark, an input their line, a step limit their allowance.
 use Prim.Native.Nat.{ℕ}
 use mathlib.Core.Path.{_≡_, refl}
-use mathlib.Core.List.{List}
+use mathlib.Core.List.{List, [], _∷_, map}
 use lib.ListN.{length}
 use Rattle.grammar.specs.Card.{formFault, grammarOf}
 use Rattle.machine.specs.Checks.{refusalOf}
@@ -11,14 +11,17 @@ use Rattle.machine.specs.Faithful.{Faithful}
 use Rattle.machine.specs.Reads.{Reads}
 use Rattle.machine.specs.ComputedRun.{reading}
 use Rattle.machine.proofs.ReadsLaws.{faithful, reads-exactly}
-use Rattle.lalr.specs.Answer.{made}
-use Rattle.lalr.specs.Generator.{Generated, generated}
+use Rattle.lalr.specs.Answer.{numbersOf, Generated}
+use Rattle.lalr.specs.ComputedGenerator.{generated}
 use Rattle.lalr.specs.Demand2.{Room, Demand2}
 use Rattle.lalr.specs.Generates.{Generates}
 use Rattle.lalr.proofs.Demand2.{demand-2}
 use Rattle.lalr.proofs.Generates.{generates, only-generated}
+use Rattle.lalr.proofs.AnswerLaws.{made-by-number}
 use Rattle.claim.specs.Claim.{Demand3}
+use Rattle.certificate.specs.Rows.{Row, rows, stated, computed}
 use Rattle.certificate.proofs.Demand.{across}
+use Rattle.certificate.proofs.Starred.{starred}
 
 -- "1. Maker and reader give a fixed, stated answer for all contents and lengths of what they are handed: a result or one numbered refusal, with the state
 -- of each lent area. No duty on the caller."
@@ -50,6 +53,11 @@ demand-2-reader t input stack list limit e = faithful t input stack list limit e
 -- out of moves, stack or list, it accepts exactly when the grammar derives the line; the rules it lists, backwards, are a rightmost derivation and its only
 -- one; where it does not accept, it names the first place where the marks so far, that one included, begin no sentence, or the end exactly when the whole
 -- line begins one and is none."
-pub demand-3 : (t z w c : List ℕ) → generated t z w c .answer ≡ made → (input stack list : List ℕ) (limit : ℕ)
+-- The maker accepts a card where the number of its answer is 0
+pub demand-3 : (t z w c : List ℕ) → numbersOf (generated t z w c .answer) ≡ 0 ∷ [] → (input stack list : List ℕ) (limit : ℕ)
     → Demand3 (grammarOf c) input (reading (generated t z w c .table) input stack list limit)
-demand-3 t z w c e input stack list limit = across t z w c e input stack list limit
+demand-3 t z w c e input stack list limit = across t z w c (made-by-number t z w c e) input stack list limit
+
+-- "Starred ones are shown to follow from the definitions, as rows of a common table covered by one theorem."
+pub starred-rows : map (λ (r : Row). computed (r .card) (r .lines)) rows ≡ map (λ (r : Row). stated (r .answer) (r .lines)) rows
+starred-rows = starred

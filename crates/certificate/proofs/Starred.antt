@@ -3,6 +3,7 @@ use mathlib.Core.Path.{_≡_, refl}
 use mathlib.Core.List.{map}
 use lib.Count.{ones, onesIn}
 use Rattle.sets.specs.Bit.{bit}
+use Rattle.sets.specs.Lists.{covered}
 use Rattle.sets.specs.Tests.{allBelow, between}
 use Rattle.grammar.specs.Card
 use Rattle.grammar.specs.Card.{symbols, symbolOf, startOf, rightOf, isNonterminal, isSymbol, leftsOk, rightsOk, formFault}
@@ -15,9 +16,9 @@ use Rattle.lalr.specs.ComputedNonterminals.{nullables, productive, reachable, u
 use Rattle.lalr.specs.ComputedStates
 use Rattle.lalr.specs.ComputedStates.{facts, closure, advance, goto}
 use Rattle.lalr.specs.ComputedAnswer.{tableOf}
-use Rattle.lalr.specs.Generator.{answerOf}
+use Rattle.lalr.specs.ComputedGenerator.{answerOf, generated}
 use Rattle.certificate.specs.Rows.{Row, rows, stated, computed}
 
 pub starred : map (λ (r : Row). computed (r .card) (r .lines)) rows ≡ map (λ (r : Row). stated (r .answer) (r .lines)) rows
-unfolding bit allBelow between Card.terminals Card.nonterminals Card.productions symbols Card.leftOf Card.lengthOf symbolOf startOf rightOf nullables productive reachable uselessNonterminal firsts ComputedStates.states facts closure advance goto ComputedStates.start tableOf build Layout.states Layout.terminals Layout.nonterminals Layout.productions width Layout.leftOf Layout.lengthOf cellOf sizeOf popped topOf actionOf shifted reducedTo reduced movedBy after run start ones onesIn expectedWord wrongAt reportOf Checks.sizesOk productionOk terminalCellOk cellOk rowOk productionsOk cellsOk terminalOk inputOk refusalOf reading Card.sizesOk isNonterminal isSymbol leftsOk rightsOk formFault answerOf
+unfolding bit allBelow between Card.terminals Card.nonterminals Card.productions symbols Card.leftOf Card.lengthOf symbolOf startOf rightOf nullables productive reachable uselessNonterminal firsts ComputedStates.states facts closure advance goto ComputedStates.start tableOf build Layout.states Layout.terminals Layout.nonterminals Layout.productions width Layout.leftOf Layout.lengthOf cellOf sizeOf popped topOf actionOf shifted reducedTo reduced movedBy after run start ones onesIn expectedWord wrongAt reportOf Checks.sizesOk productionOk terminalCellOk cellOk rowOk productionsOk cellsOk terminalOk inputOk refusalOf reading Card.sizesOk isNonterminal isSymbol leftsOk rightsOk formFault answerOf generated covered
 starred = refl

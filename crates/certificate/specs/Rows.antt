@@ -1,13 +1,13 @@
 -- The starred cards and lines of 01, and the grammars of "Misreadings to rule out", as rows of one table: what each must give.
 use mathlib.Core.List.{List, [], _∷_, _++_, map}
 use Prim.Native.Nat.{ℕ}
-use lib.ListN.{replicate}
+use lib.ListN.{replicate, take}
 use Rattle.areas.specs.Areas.{tableSize, wordsSize, halvesSize}
+use Rattle.tables.specs.Layout.{sizeOf}
 use Rattle.machine.specs.Report as report
 use Rattle.machine.specs.ComputedRun.{reading}
 use Rattle.lalr.specs.Answer as lalr
-use Rattle.lalr.specs.ComputedAnswer.{tableOf}
-use Rattle.lalr.specs.Generator.{answerOf}
+use Rattle.lalr.specs.ComputedGenerator.{generated}
 
 -- Card A: 3 → 3 1, 3 → 2
 abbrev pub cardA : List ℕ
@@ -155,18 +155,20 @@ abbrev pub stated : Answer → List Line → Result
 stated (table sizes left length rows) lines = record { numbers = 0 ∷ []; table = sizes ++ (left ++ (length ++ joined rows)); lines = lines }
 stated (refused numbers) lines = record { numbers = numbers; table = []; lines = lines }
 
-abbrev pub tableIf : lalr.Answer → List ℕ → List ℕ
-tableIf lalr.made t = t
-tableIf (lalr.refused n) t = []
-tableIf (lalr.uselessAt n) t = []
-tableIf (lalr.conflict q m v w) t = []
+-- the table that stands in front of an area
+abbrev pub inFront : lalr.Answer → List ℕ → List ℕ
+inFront lalr.made t = take (sizeOf t) t
+inFront (lalr.refused n) t = []
+inFront (lalr.uselessAt n) t = []
+inFront (lalr.conflict q m v w) t = []
 
 abbrev pub readLine : List ℕ → Line → Line
 readLine t l =
     let r = reading t (l .input) (replicate (l .stack) 9) (replicate (l .list) 9) (l .limit) in
     record { input = l .input; stack = l .stack; list = l .list; limit = l .limit; numbers = report.numbersOf (r .report); stack-left = r .stack; list-left = r .list }
 
+-- with areas of just the lengths that the maker asks for; lines are read with the table area as the maker left it
 abbrev pub computed : List ℕ → List Line → Result
 computed c lines =
-    let a = answerOf tableSize wordsSize halvesSize c in
-    record { numbers = lalr.numbersOf a; table = tableIf a (tableOf c); lines = map (readLine (tableOf c)) lines }
+    let out = generated (replicate tableSize 9) (replicate wordsSize 9) (replicate halvesSize 9) c in
+    record { numbers = lalr.numbersOf (out .answer); table = inFront (out .answer) (out .table); lines = map (readLine (out .table)) lines }

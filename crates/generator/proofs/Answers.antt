@@ -10,7 +10,7 @@ use Rattle.card_checks.specs.declared.Refusal.{Refusal}
 use Rattle.card_checks.specs.declared.Refusal.the-variants.{CardShort, SizesWrong, LengthWrong, LeftWrong, SumWrong, SymbolWrong, Useless}
 use Rattle.card_checks.proofs.Verdicts.{refusal-some}
 use Rattle.lalr.specs.Answer.{made, numbersOf}
-use Rattle.lalr.specs.Generator.{generated}
+use Rattle.lalr.specs.ComputedGenerator.{generated}
 use Rattle.lalr.proofs.AnswerLaws.{made-by-number}
 use Rattle.generator.specs.declared.Answer.{Answer}
 use Rattle.generator.specs.declared.Answer.the-variants.{Table, TableShort, WordsShort, HalvesShort, Card, ManyStates, ManyTransitions, Conflict}

@@ -18,7 +18,7 @@ use Rattle.card_checks.proofs.Verdicts.{Fault, none, some, fault-is, first-faul
 use Rattle.lalr.specs.Answer.{refused, uselessAt}
 use Rattle.lalr.specs.Answer as definition
 use Rattle.lalr.specs.ComputedAnswer.{cardAnswer}
-use Rattle.lalr.specs.Generator.{generated}
+use Rattle.lalr.specs.ComputedGenerator.{generated}
 use Rattle.lalr.specs.Demand2.{Room}
 use Rattle.lalr.specs.Meaning.{AllUseful, Judged}
 use Rattle.lalr.proofs.Main.{card-answer}

@@ -20,7 +20,7 @@ use Rattle.lr.specs.Cells as lr
 use Rattle.lalr.specs.Answer.{made, refused, uselessAt, conflict, numbersOf}
 use Rattle.lalr.specs.Answer as definition
 use Rattle.lalr.specs.ComputedAnswer.{tableOf}
-use Rattle.lalr.specs.Generator.{writes, tableLeft, generated}
+use Rattle.lalr.specs.ComputedGenerator.{writes, tableLeft, generated}
 use Rattle.lalr.specs.Meaning.{AllUseful, Sized, useless, many, wide, clash, fine}
 use Rattle.lalr.specs.Demand2.{Room}
 use Rattle.lalr.proofs.Finish.{judged, left-alone, all-covered, table-found}

@@ -11,7 +11,7 @@ use Rattle.areas.specs.Areas.{tableSize, wordsSize, halvesSize}
 use Rattle.lr.proofs.ItemLaws.{all-productive}
 use Rattle.lr.specs.States.{States, MoreStates}
 use Rattle.lalr.specs.Answer.{made, refused, conflict}
-use Rattle.lalr.specs.Generator.{generated}
+use Rattle.lalr.specs.ComputedGenerator.{generated}
 use Rattle.lalr.specs.Meaning.{AllUseful}
 use Rattle.lalr.specs.Demand2.{Room}
 use Rattle.nonterminals.specs.Sets.{NonterminalSet}

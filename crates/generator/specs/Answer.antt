@@ -3,7 +3,7 @@ use Prim.Native.Nat.{ℕ}
 use mathlib.Core.Path.{_≡_}
 use mathlib.Core.List.{List, [], _∷_}
 use Rattle.card_checks.specs.Checked.{refusalNumbers}
-use Rattle.lalr.specs.Generator.{Generated, numbersOf}
+use Rattle.lalr.specs.Answer.{Generated, numbersOf}
 use Rattle.generator.specs.declared.Answer.{Answer}
 use Rattle.generator.specs.declared.Answer.the-variants.{Table, TableShort, WordsShort, HalvesShort, Card, ManyStates, ManyTransitions, Conflict}
 

@@ -8,7 +8,7 @@ ghost use Rattle.grammar.specs.Card.{formFault, grammarOf};
 ghost use Rattle.areas.specs.Areas.{wordsSize};
 ghost use Rattle.transitions.specs.Next.{nextOf, Numbered};
 ghost use Rattle.transitions.specs.Data.{Data};
-ghost use Rattle.lalr.specs.Generator.{generated};
+ghost use Rattle.lalr.specs.ComputedGenerator.{generated};
 ghost use Rattle.lalr.specs.Meaning.{AllUseful};
 ghost use Rattle.lalr.proofs.Finish.{Room};
 ghost use Rattle.generator.specs.Answer.{numbers as answerNumbers, GeneratesAs};

@@ -3,7 +3,7 @@ use generator::Answer;
 ghost use mathlib.Core.Path.{_≡_};
 ghost use mathlib.Core.List.{[]};
 ghost use Rattle.sets.specs.Lists.{covered};
-ghost use Rattle.lalr.specs.Generator.{generated};
+ghost use Rattle.lalr.specs.ComputedGenerator.{generated};
 ghost use Rattle.generator.specs.Answer.{numbers};
 ghost use Rattle.generator_c.specs.Out.{WritesOut};
 

@@ -14,7 +14,7 @@ use Rattle.grammar.proofs.CardLaws.{fault-most}
 use Rattle.areas.specs.Areas.{tableSize, wordsSize, halvesSize}
 use Rattle.lalr.specs.Answer.{Answer, made, refused, uselessAt, conflict, numbersOf}
 use Rattle.lalr.specs.ComputedAnswer.{cardAnswer}
-use Rattle.lalr.specs.Generator.{answerOf, generated}
+use Rattle.lalr.specs.ComputedGenerator.{answerOf, generated}
 use Rattle.lalr.specs.Meaning.{Judged, useless, many, wide, clash, fine}
 use Rattle.lalr.proofs.Main.{card-answer}
 

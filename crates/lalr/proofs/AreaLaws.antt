@@ -9,7 +9,7 @@ use Rattle.sets.specs.Lists.{covered}
 use Rattle.areas.specs.Areas.{tableSize}
 use Rattle.lalr.specs.Answer.{Answer, made}
 use Rattle.lalr.specs.ComputedAnswer.{tableOf}
-use Rattle.lalr.specs.Generator.{answerOf, writes, tableLeft, generated}
+use Rattle.lalr.specs.ComputedGenerator.{answerOf, writes, tableLeft, generated}
 
 pub covered-length : (n : ℕ) (l area : List ℕ) → length l ≤ n → n ≤ length area → length (covered n l area) ≡ length area
 unfolding covered

@@ -9,9 +9,9 @@ use Rattle.grammar.specs.Grammar.{Grammar}
 use Rattle.grammar.specs.Card.{formFault, grammarOf}
 use Rattle.sets.specs.Lists.{covered}
 use Rattle.areas.specs.Areas.{tableSize, wordsSize, halvesSize}
-use Rattle.lalr.specs.Answer.{Answer, made, refused, uselessAt, conflict}
+use Rattle.lalr.specs.Answer.{Answer, made, refused, uselessAt, conflict, Generated}
 use Rattle.lalr.specs.ComputedAnswer.{cardAnswer, tableOf}
-use Rattle.lalr.specs.Generator.{writes, tableLeft, Generated, generated}
+use Rattle.lalr.specs.ComputedGenerator.{writes, tableLeft, generated}
 use Rattle.lalr.specs.Meaning.{Judged, useless, many, wide, clash, fine}
 use Rattle.lalr.specs.Demand2.{Room, OneTable, Cleared, Unchanged, Leaves, Demand2}
 use Rattle.lalr.proofs.Main.{card-answer, card-table, only-table, table-fits}

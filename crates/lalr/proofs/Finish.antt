@@ -13,9 +13,9 @@ use Rattle.grammar.specs.Card.{formFault, grammarOf}
 use Rattle.lr.specs.Cells.{Table}
 use Rattle.sets.specs.Lists.{covered}
 use Rattle.areas.specs.Areas.{tableSize, wordsSize, halvesSize}
-use Rattle.lalr.specs.Answer.{Answer, made, refused}
+use Rattle.lalr.specs.Answer.{Answer, made, refused, Generated}
 use Rattle.lalr.specs.ComputedAnswer.{cardAnswer, tableOf}
-use Rattle.lalr.specs.Generator.{answerOf, writes, tableLeft, Generated, generated}
+use Rattle.lalr.specs.ComputedGenerator.{answerOf, writes, tableLeft, generated}
 use Rattle.lalr.specs.Meaning.{Judged}
 pub use Rattle.lalr.specs.Demand2.{Room}
 use Rattle.lalr.proofs.AreaLaws.{covered-length}

@@ -11,9 +11,9 @@ use borrow.Author.Tests.{le-ltb}
 use Rattle.grammar.specs.Card.{formFault}
 use Rattle.grammar.proofs.CardLaws.{fault-most}
 use Rattle.areas.specs.Areas.{tableSize, wordsSize, halvesSize}
-use Rattle.lalr.specs.Answer.{refused}
+use Rattle.lalr.specs.Answer.{refused, Generated}
 use Rattle.lalr.specs.ComputedAnswer.{cardAnswer}
-use Rattle.lalr.specs.Generator.{writes, Generated, generated}
+use Rattle.lalr.specs.ComputedGenerator.{writes, generated}
 use Rattle.lalr.specs.Demand2.{Room, Unchanged, Demand2}
 use Rattle.lalr.specs.Generates.{Refuses, Generates, table-short, words-short, halves-short, malformed, well-formed}
 use Rattle.lalr.proofs.Finish.{by-card, short-table, short-words, short-halves, left-alone}

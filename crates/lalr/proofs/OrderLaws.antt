@@ -9,7 +9,7 @@ use lib.Dec.{ltb}
 use Rattle.areas.specs.Areas.{tableSize, wordsSize, halvesSize}
 use Rattle.lalr.specs.Answer.{Answer, made, refused}
 use Rattle.lalr.specs.ComputedAnswer.{cardAnswer}
-use Rattle.lalr.specs.Generator.{answerOf}
+use Rattle.lalr.specs.ComputedGenerator.{answerOf}
 
 not-made : {n : ℕ} → refused n ≡ made → ⊥
 not-made e = let z : _≡_ {A = ℕ} 0 1 = cc in omega arith

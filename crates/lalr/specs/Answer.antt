@@ -1,4 +1,4 @@
--- The maker's answer, and its numbers.
+-- The maker's answer and its numbers, and what it leaves in the areas.
 use mathlib.Core.List.{List, [], _∷_}
 use Prim.Native.Nat.{ℕ}
 
@@ -15,3 +15,10 @@ numbersOf made = 0 ∷ []
 numbersOf (refused n) = n ∷ []
 numbersOf (uselessAt x) = 10 ∷ x ∷ []
 numbersOf (conflict q m v w) = 13 ∷ q ∷ m ∷ v ∷ w ∷ []
+
+-- the answer, and the three areas as the maker leaves them
+pub record Generated : Type 0 where
+  pub answer : Answer
+  pub table : List ℕ
+  pub words : List ℕ
+  pub halves : List ℕ

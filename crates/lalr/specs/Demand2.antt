@@ -9,9 +9,8 @@ use Rattle.grammar.specs.Card.{grammarOf}
 use Rattle.sets.specs.Lists.{covered}
 use Rattle.areas.specs.Areas.{tableSize, wordsSize, halvesSize}
 use Rattle.lr.specs.Cells.{Table}
-use Rattle.lalr.specs.Answer.{Answer, made, refused, uselessAt, conflict}
+use Rattle.lalr.specs.Answer.{Answer, made, refused, uselessAt, conflict, Generated}
 use Rattle.lalr.specs.Meaning.{Judged}
-use Rattle.lalr.specs.Generator.{Generated}
 
 -- none of 1 to 3 applies: the areas are long enough
 pub record Room (t z w : List ℕ) : Type 0 where

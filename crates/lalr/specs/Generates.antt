@@ -7,8 +7,7 @@ use mathlib.Core.List.{List}
 use lib.ListN.{length}
 use Rattle.grammar.specs.Card.{formFault}
 use Rattle.areas.specs.Areas.{tableSize, wordsSize, halvesSize}
-use Rattle.lalr.specs.Answer.{refused}
-use Rattle.lalr.specs.Generator.{Generated}
+use Rattle.lalr.specs.Answer.{refused, Generated}
 use Rattle.lalr.specs.Demand2.{Room, Unchanged, Demand2}
 
 -- a refusal that is its number alone and changes no area

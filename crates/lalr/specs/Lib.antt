@@ -1,6 +1,6 @@
 pub mod Answer
 pub mod Meaning
-pub mod Generator
+pub mod ComputedGenerator
 pub mod Demand2
 pub mod Generates
 pub mod ComputedSets

@@ -1,4 +1,4 @@
--- What the maker's answer and table mean, by definition alone: nothing here is computed from the card but the grammar.
+-- What the maker's answer means, by definition alone: nothing here is computed from the card but the grammar.
 use Prim.Native.Nat.{ℕ, _≤_, _<_}
 use Rattle.grammar.specs.Grammar.{Grammar}
 use Rattle.grammar.specs.Useful.{Useful, Nonterminal}

@@ -15,7 +15,7 @@ use Rattle.decimal.specs.Scanning.{scanned}
 use Rattle.decimal.proofs.Scanned.{scanned-card, scanned-none}
 use Rattle.decimal.proofs.Written.{page-text}
 use Rattle.listing.specs.Listing.{notACard, textSize}
-use Rattle.lalr.specs.Generator.{generated}
+use Rattle.lalr.specs.ComputedGenerator.{generated}
 use Rattle.response.specs.Response.{cardText, RepliesAs}
 use Rattle.response.proofs.Whole.{reply-whole}
 use Rattle.maketable.specs.Printed.{Prints, card, other, Answers}

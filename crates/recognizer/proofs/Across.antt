@@ -4,7 +4,7 @@ use mathlib.Core.Logic.{_≢_}
 use mathlib.Core.List.{List}
 use Prim.Native.Nat.{ℕ}
 use Rattle.machine.specs.ComputedRun.{reading}
-use Rattle.lalr.specs.Generator.{generated}
+use Rattle.lalr.specs.ComputedGenerator.{generated}
 use Rattle.certificate.proofs.Demand.{across}
 use Rattle.generator.specs.Answer.{GeneratesAs}
 use Rattle.generator.proofs.Answers.{table-is-made, made-is-table}

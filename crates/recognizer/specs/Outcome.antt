@@ -7,8 +7,8 @@ use Rattle.grammar.specs.Card.{grammarOf}
 use Rattle.machine.specs.Report.{Reading}
 use Rattle.machine.specs.ComputedRun.{reading}
 use Rattle.claim.specs.Claim.{Demand3}
-use Rattle.lalr.specs.Answer.{made, numbersOf}
-use Rattle.lalr.specs.Generator.{Generated, generated}
+use Rattle.lalr.specs.Answer.{made, numbersOf, Generated}
+use Rattle.lalr.specs.ComputedGenerator.{generated}
 use Rattle.generator.specs.Answer.{numbers}
 use Rattle.generator.specs.declared.Answer as generator
 use Rattle.parser.specs.Answer.{ReadsAs}

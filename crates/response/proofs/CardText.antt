@@ -9,7 +9,7 @@ use Rattle.tables.specs.Layout.{width}
 use Rattle.areas.specs.Areas.{tableSize, wordsSize, halvesSize}
 use Rattle.lalr.specs.Answer.{Answer, made, numbersOf}
 use Rattle.lalr.specs.ComputedAnswer.{cardAnswer, tableOf}
-use Rattle.lalr.specs.Generator.{answerOf, generated}
+use Rattle.lalr.specs.ComputedGenerator.{answerOf, generated}
 use Rattle.lalr.proofs.AreaLaws.{made-area}
 use Rattle.lalr.proofs.Main.{card-table, table-words}
 use Rattle.lalr.proofs.TableLaws.{made-of, the-form}

@@ -6,7 +6,7 @@ use Prim.Native.Nat.{ℕ}
 use borrow.Author.Tests.{eq-eqb, ne-eqb}
 use lib.ListN.{getD}
 use Rattle.decimal.specs.Page.{Page, pageOf, page}
-use Rattle.lalr.specs.Generator.{Generated}
+use Rattle.lalr.specs.Answer.{Generated}
 use Rattle.generator.specs.declared.Answer.{Answer}
 use Rattle.generator.specs.Answer.{numbers, GeneratesAs}
 use Rattle.listing.specs.Listing.{tableText, refusalText}

@@ -7,7 +7,7 @@ use lib.ListN.{length, take}
 use Rattle.areas.specs.Areas.{tableSize, wordsSize, halvesSize}
 use Rattle.decimal.proofs.Written.{page-text}
 use Rattle.lalr.specs.Answer.{numbersOf}
-use Rattle.lalr.specs.Generator.{generated}
+use Rattle.lalr.specs.ComputedGenerator.{generated}
 use Rattle.listing.specs.Listing.{textSize}
 use Rattle.response.specs.Response.{responseText, cardText, RepliesAs}
 use Rattle.response.proofs.CardText.{card-text, card-room}

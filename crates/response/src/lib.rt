@@ -4,7 +4,7 @@ ghost use lib.ListN.{length, getD};
 ghost use Rattle.decimal.specs.Page.{pageOf, page, Used};
 ghost use Rattle.generator.specs.Answer.{numbers};
 ghost use Rattle.generator.specs.declared.Answer as declared;
-ghost use Rattle.lalr.specs.Generator.{generated};
+ghost use Rattle.lalr.specs.ComputedGenerator.{generated};
 ghost use Rattle.listing.specs.Listing.{refusalText};
 ghost use Rattle.response.specs.Response.{responseText, RepliesAs};
 use generator::Answer;

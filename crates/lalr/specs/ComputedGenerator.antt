@@ -1,5 +1,4 @@
--- The maker as a function of all lists of numbers: refusals 1 to 3, the answer to the card, and what the three lent areas hold after each answer.
--- The answer to the card and its table are computed; what they are is Demand2.antt.
+-- The maker as a function, which nobody has to believe: `generates` and `only-generated` of proofs/Generates.antt prove it the one that meets `Generates`.
 use mathlib.Core.Bool.{Bool, true, false, cond}
 use mathlib.Core.List.{List, []}
 use Prim.Native.Nat.{ℕ}
@@ -7,7 +6,7 @@ use lib.ListN.{length}
 use lib.Dec.{ltb}
 use Rattle.sets.specs.Lists.{covered}
 use Rattle.areas.specs.Areas.{tableSize, wordsSize, halvesSize}
-pub use Rattle.lalr.specs.Answer.{Answer, made, refused, uselessAt, conflict, numbersOf}
+use Rattle.lalr.specs.Answer.{Answer, made, refused, uselessAt, conflict, Generated}
 use Rattle.lalr.specs.ComputedAnswer.{cardAnswer, tableOf}
 
 -- 1 to 3: "a table area (at least 32,004 numbers of 16 bits) and two work areas (8,192 numbers of 64 bits, 16,384 of 32 bits)", by their lengths
@@ -36,13 +35,6 @@ tableLeft made c = tableOf c
 tableLeft (refused n) c = []
 tableLeft (uselessAt x) c = []
 tableLeft (conflict q m v w) c = []
-
--- the answer, and the three areas as the maker leaves them
-pub record Generated : Type 0 where
-  pub answer : Answer
-  pub table : List ℕ
-  pub words : List ℕ
-  pub halves : List ℕ
 
 -- the table area, the work area of 64-bit words, the work area of 32-bit words, and the card
 unfoldable pub generated : List ℕ → List ℕ → List ℕ → List ℕ → Generated
