@@ -26,7 +26,7 @@ abbrev pub verdictNumbers : Verdict → List ℕ
 verdictNumbers Passed = 0 ∷ []
 verdictNumbers (Refused e) = refusalNumbers e
 
--- the verdict on a card, for any numbers and any length
+-- the verdict on a card, for any numbers and any length; each card has one (`one-verdict` of proofs/Verdicts.antt)
 pub data Checked (c : List ℕ) : List ℕ → Type 0 where
   -- the first of 4 to 9 that applies
   malformed : formFault c ≢ 0 → Checked c (formFault c ∷ [])

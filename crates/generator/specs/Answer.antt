@@ -19,7 +19,7 @@ numbers ManyStates = 11 ∷ []
 numbers ManyTransitions = 12 ∷ []
 numbers (Conflict q m v w) = 13 ∷ q ∷ m ∷ v ∷ w ∷ []
 
--- the answer and the three areas at exit are those of the definition
+-- the answer and the three areas at exit are those of the definition; no two of its answers have the same numbers (`numbers-one` of crates/lalr)
 pub record GeneratesAs (g : Generated) (r : Answer) (t z w : List ℕ) : Type 0 where
   pub answer : numbers r ≡ numbersOf (g .answer)
   pub table : t ≡ g .table

@@ -10,7 +10,7 @@ ghost use Rattle.transitions.specs.Next.{nextOf, Numbered};
 ghost use Rattle.transitions.specs.Data.{Data};
 ghost use Rattle.lalr.specs.ComputedGenerator.{generated};
 ghost use Rattle.lalr.specs.Meaning.{AllUseful};
-ghost use Rattle.lalr.proofs.Finish.{Room};
+ghost use Rattle.lalr.specs.Demand2.{Room};
 ghost use Rattle.generator.specs.Answer.{numbers as answerNumbers, GeneratesAs};
 ghost use Rattle.generator.specs.Phases.{Cleared, Complete};
 use card_checks::Refusal;

@@ -1,5 +1,6 @@
 -- The short way of 001 (DeRemer and Pennello): direct reads, and the relations reads, includes and lookback among nonterminal transitions.
--- A method, and no part of the definition of the table; proofs/ShortWay.antt shows that it gives the lookaheads of the merged sets.
+-- A method, and no part of the definition of the table; proofs/ShortWay.antt shows that it gives the lookaheads of the merged sets, where
+-- `next` has no transitions but those of the states.
 use Prim.Native.Nat.{ℕ, _<_}
 use mathlib.Core.Path.{_≡_}
 use mathlib.Core.Logic.{_≢_}

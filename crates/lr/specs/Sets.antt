@@ -1,4 +1,4 @@
--- FIRST, CLOSURE, GOTO and the canonical sets of LR(1) items, as 003 has them (4.2 and 4.3).
+-- FIRST as 01 has it; CLOSURE, GOTO and the canonical sets of LR(1) items as 003 has them (4.2 and 4.3).
 -- An item is a production r, a dot behind d symbols of its right side, and a lookahead a (the paper's look-ahead).
 use Prim.Native.Nat.{ℕ, suc, _<_}
 use mathlib.Core.Path.{_≡_}

@@ -20,7 +20,7 @@ abbrev pub listed : Config → ℕ
 listed (conf qs x out) = length out
 
 module _ (t : List ℕ) where
-  -- the cell of the top state and the next terminal asks for a reduction by production r
+  -- the cell of the top state and the next terminal asks for a reduction by production r. In a table that no check has seen 1,024+r can be accept's number
   pub data Reduces (r : ℕ) : Config → Type 0 where
     reduces : {q : ℕ} {qs x out : List ℕ} → cellOf t q (peek x) ≡ reduction r → reduction r ≢ accept → Reduces r (conf (q ∷ qs) x out)
 

@@ -16,7 +16,8 @@ use Rattle.steps.specs.declared.Stop.{Stop}
 use Rattle.steps.specs.declared.Stop.the-variants.{StackFull, ListFull, Broken}
 use Rattle.steps.specs.declared.Next.the-variants.{Ended, Moved, Accepted}
 use Rattle.steps.specs.declared.State.{State}
-use Rattle.parser.specs.Answer.{numbers, reached, Ends}
+use Rattle.parser.specs.Answer.{numbers}
+use Rattle.parser.specs.Phases.{reached, Ends}
 use Rattle.parser.specs.declared.Answer.{Answer}
 use Rattle.parser.proofs.Held.{action-is}
 

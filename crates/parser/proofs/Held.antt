@@ -15,7 +15,8 @@ use Rattle.tables.proofs.Places.{cell-up}
 use Rattle.machine.proofs.Checked.{Checked, Passed, shift-passed, reduce-passed, next-passed, cell-within}
 use Rattle.steps.specs.State.{machineOf, Held, Steppable}
 use Rattle.steps.specs.declared.State.{State}
-use Rattle.parser.specs.Answer.{countsOf, numbers, reached}
+use Rattle.parser.specs.Answer.{countsOf, numbers}
+use Rattle.parser.specs.Phases.{reached}
 use Rattle.parser.specs.declared.Counts.{Counts}
 use Rattle.parser.specs.declared.Answer.the-variants.{NoAction}
 

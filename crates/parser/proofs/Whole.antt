@@ -11,7 +11,8 @@ use Rattle.machine.proofs.ReadsLaws.{unrefused, refused-is}
 use Rattle.table_checks.specs.Verdict.{refusalNumber}
 use Rattle.table_checks.specs.declared.Refusal.{Refusal}
 use Rattle.table_checks.specs.declared.Refusal.the-variants.{TableShort, SizesWrong, ProductionWrong, CellWrong, InputLong, TerminalWrong, NoStack}
-use Rattle.parser.specs.Answer.{Ends, ReadsAs}
+use Rattle.parser.specs.Answer.{ReadsAs}
+use Rattle.parser.specs.Phases.{Ends}
 use Rattle.parser.specs.declared.Answer.{Answer}
 use Rattle.parser.specs.declared.Answer.the-variants as answer
 

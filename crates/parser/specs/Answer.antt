@@ -3,9 +3,7 @@ use Prim.Native.Nat.{ℕ}
 use mathlib.Core.Path.{_≡_}
 use mathlib.Core.List.{List, [], _∷_, _++_}
 use Rattle.machine.specs.Report.{numbersOf, Reading}
-use Rattle.machine.specs.ComputedRun.{Outcome, reportOf}
 use Rattle.table_checks.specs.Verdict.{refusalNumber}
-use Rattle.steps.specs.declared.State.{State}
 use Rattle.parser.specs.declared.Counts.{Counts}
 use Rattle.parser.specs.declared.Answer.{Answer}
 use Rattle.parser.specs.declared.Answer.the-variants.{Refused, Accepted, NoAction, StepLimit, StackFull, ListFull, Broken}
@@ -24,18 +22,8 @@ numbers (StackFull c) = 33 ∷ countsOf c
 numbers (ListFull c) = 34 ∷ countsOf c
 numbers (Broken c) = 35 ∷ countsOf c
 
--- what an end at a state carries
-abbrev pub reached : State → List ℕ
-reached s = s .steps ∷ s .depth ∷ s .listed ∷ []
-
 -- the answer and both areas at exit are those of a reading; no two reports have the same numbers (`numbers-tell` of crates/machine)
 pub record ReadsAs (g : Reading) (r : Answer) (st li : List ℕ) : Type 0 where
   pub answer : numbers r ≡ numbersOf (g .report)
   pub stack : st ≡ g .stack
   pub list : li ≡ g .list
-
--- the answer and both areas at exit are those of an outcome of the machine
-pub record Ends (t : List ℕ) (o : Outcome) (r : Answer) (st li : List ℕ) : Type 0 where
-  pub answer : numbers r ≡ numbersOf (reportOf t o)
-  pub stack : st ≡ o .final .stack
-  pub list : li ≡ o .final .list

@@ -13,7 +13,8 @@ ghost use Rattle.machine.specs.Checks.{refusalOf};
 ghost use Rattle.machine.specs.Report.{numbersOf};
 ghost use Rattle.machine.specs.ComputedRun.{run as runs, start, wrongAt, reading};
 ghost use Rattle.steps.specs.State.{machineOf, stopNumber, Held};
-ghost use Rattle.parser.specs.Answer.{countsOf, numbers, reached, ReadsAs, Ends};
+ghost use Rattle.parser.specs.Answer.{countsOf, numbers, ReadsAs};
+ghost use Rattle.parser.specs.Phases.{reached, Ends};
 ghost use Rattle.parser.specs.Terminals.{Lists};
 
 // The steps made, the stack places in use and the productions listed.
@@ -23,7 +24,7 @@ pub struct Counts {
     pub listed: usize,
 }
 
-// A refusal, or how a reading ended; `numbers` gives the paper's number and values of each.
+// A refusal, or how a reading ended; `numbers` of specs/Answer.antt gives the paper's number and values of each.
 pub enum Answer {
     Refused(Refusal),
     Accepted(Counts),

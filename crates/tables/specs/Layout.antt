@@ -1,5 +1,5 @@
 -- The layout of a parse table: the sizes Q, T, N, P; two arrays of P numbers, left sides and lengths; then Q rows of T + N cells.
--- Every place of a table is named here and nowhere else; crate tables has the same names in code. A place past the end reads 0.
+-- Every place of a table is named here; crate tables has the places in code. A place past the end reads 0.
 use Prim.Native.Nat.{ℕ, _+_, _*_}
 use mathlib.Core.List.{List, [], _∷_, _++_}
 use lib.ListN.{getD}
