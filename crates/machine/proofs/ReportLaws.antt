@@ -1,13 +1,14 @@
 -- The parts of a faithful reading's report, and that no two reports have the same numbers.
 use Prim.Native.Nat.{ℕ, _+_}
 use mathlib.Core.Path.{_≡_, refl, ap}
-use mathlib.Core.List.{List}
-use lib.ListN.{length, getD}
+use mathlib.Core.List.{List, reverse}
+use lib.ListN.{length, getD, length-reverse}
 use lib.Seq.{take-at}
 use native.Mathlib.Omega.{arith}
+use Rattle.sets.proofs.CoveredLaws.{covered-length, covered-exact}
 pub use Rattle.machine.specs.Report.{Report, refused, ended, wrong-at, numbersOf, Reading, numberOf, stepsOf, depthOf, productionsOf, positionOf}
 pub use Rattle.machine.specs.Faithful.{Stops, accepted-here, wrong-here, no-steps, list-full, broken-here, stack-full, Reports, counts, expects, Faithful}
-use Rattle.machine.proofs.LrMachineLaws.{Config, conf, depth, listed, own-steps}
+use Rattle.machine.proofs.LrMachineLaws.{Config, conf, depth, listed, own-steps, path-last}
 
 -- the numbers tell the report: they are 1, 4 or 7 in number
 pub numbers-tell : (a b : Report) → numbersOf a ≡ numbersOf b → a ≡ b
@@ -61,3 +62,12 @@ module _ {t l st li : List ℕ} {a : ℕ} {r : Reading} (f : Faithful t l st li 
 
   pub position-is : f .number ≡ 31 → positionOf r + length (f .ahead) ≡ length l
   position-is e = part-4 (f .reported) e
+
+  -- both areas keep their lengths
+  pub stack-long : length (r .stack) ≡ length st
+  stack-long =
+      let d = path-last t (f .path) in
+      rw (f .stacked) (covered-length (f .most) (reverse (f .states)) st (rw length-reverse d) (f .within))
+
+  pub list-long : length (r .list) ≡ length li
+  list-long = rw (f .listing, ← covered-exact (f .productions) li) (covered-length (length (f .productions)) (f .productions) li (omega arith) (f .room))
