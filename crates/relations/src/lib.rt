@@ -12,8 +12,8 @@ ghost use Rattle.relations.specs.Walk.{Node, Standing, Firsts, Nexts};
 ghost use Rattle.relations.specs.Steps.{Adds, Into, Opens, Index};
 
 pub enum Relation {
-    Reads,
     Includes,
+    Reads,
 }
 
 // A place in the walk along the edges of a node. Reads: `at` is a transition. Includes: `at` - 1 is an occurrence, and `set` the states of it that are left.
