@@ -98,13 +98,13 @@ fn ended(s: Scan) -> Input
     }
 }
 
-// Reads standard input to its end. The numbers of a card stand at the front of the area, whose
-// length every array of this type has.
+// Reads standard input to its end. The numbers of a card then stand at the front of the area.
 pub fn read(name: &[u8], card: &mut [u16; CARD]) -> Input
-    requires { ⌜ length (now card) ≡ cardSize ⌝ }
     ensures { λ r. ⌜ ((bs : List ℕ) × Came bs (now (card .exit)) r) ⌝ }
 {
-    let all = read_all(name, card);
+    let mut area = [0u16; CARD];
+    let all = read_all(name, &mut area);
+    *card = area;
     match all {
         Whole::Scanned(s) => ended(s),
         Whole::Failed => Input::Failed,
