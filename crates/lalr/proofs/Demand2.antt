@@ -1,11 +1,10 @@
 -- Demand 2: what `generated` gives meets it, and nothing else does.
 use mathlib.Core.Path.{_≡_, refl, sym, ap, _∙_, subst}
-use mathlib.Core.Bool.{true, false}
+use mathlib.Core.Bool.{true}
 use mathlib.Core.List.{List, []}
-use Prim.Native.Nat.{ℕ, zero, suc, _+_, _≤_}
+use Prim.Native.Nat.{ℕ, _≤_}
 use native.Mathlib.Omega.{arith}
 use lib.ListN.{length}
-use Rattle.grammar.specs.Grammar.{Grammar}
 use Rattle.grammar.specs.Card.{formFault, grammarOf}
 use Rattle.sets.specs.Lists.{covered}
 use Rattle.areas.specs.Areas.{tableSize, wordsSize, halvesSize}
@@ -13,7 +12,7 @@ use Rattle.lalr.specs.Answer.{Answer, made, refused, uselessAt, conflict
 use Rattle.lalr.specs.ComputedAnswer.{cardAnswer, tableOf}
 use Rattle.lalr.specs.ComputedGenerator.{writes, tableLeft, generated}
 use Rattle.lalr.specs.Meaning.{Judged, useless, many, wide, clash, fine}
-use Rattle.lalr.specs.Demand2.{Room, OneTable, Cleared, Unchanged, Leaves, Demand2}
+use Rattle.lalr.specs.Demand2.{Room, Cleared, Leaves, Demand2}
 use Rattle.lalr.proofs.Main.{card-answer, card-table, only-table, table-fits}
 use Rattle.lalr.proofs.Finish.{by-card, left-alone, all-covered}
 use Rattle.lalr.proofs.Judge.{judged-one}

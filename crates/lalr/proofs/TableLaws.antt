@@ -6,7 +6,6 @@ use mathlib.Core.List.{List, [], _∷_, _++_}
 use Prim.Native.Nat.{ℕ, zero, suc, _+_, _*_, _-_, _≤_, _<_}
 use native.Mathlib.Omega.{arith}
 use native.Mathlib.Nat.{mul-one}
-use native.Mathlib.Decide.{ℕ-discrete}
 use lib.ListN.{length, getD, drop, length-append, length-drop, List·getD-append}
 use lib.Seq.{getD-append-add, getD-drop}
 use lib.Dec.{ltb}
@@ -24,7 +23,7 @@ use Rattle.lalr.specs.ComputedStates.{states, facts, cell}
 use Rattle.lalr.specs.Answer.{made, refused, uselessAt}
 use Rattle.lalr.specs.ComputedAnswer.{conflictOf, judge, grammarAnswer, cardAnswer, tableOf}
 use Rattle.lalr.proofs.StateLaws
-use Rattle.lalr.proofs.CellLaws.{conflict-search, Short, single-of, cell-action, action-cell, no-conflict}
+use Rattle.lalr.proofs.CellLaws.{conflict-search, Short, cell-action, action-cell, no-conflict}
 use Rattle.lalr.proofs.UsefulLaws.{none-useless}
 use Rattle.grammar.proofs.CardLaws.{WellFormed, well-formed, formed, right-length}
 use Rattle.tables.proofs.LayoutLaws.{built-sizes, built-long, built-left, built-length, built-cell}

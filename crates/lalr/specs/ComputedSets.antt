@@ -1,6 +1,6 @@
 -- Computed, and not to be believed: `reach` is the set of all that the members reach by `reach-only` and `reach-all` of proofs/Reach.antt.
 -- Finite sets of numbers are one number, bit k for the member k; `least` is the least set that a step leaves alone.
-use mathlib.Core.Bool.{Bool, true, false, _&&_}
+use mathlib.Core.Bool.{Bool, true, false}
 use mathlib.Core.List.{List, [], _∷_}
 use Prim.Native.Nat.{ℕ, zero, suc, _+_, _^_}
 use lib.Dec.{eqb}

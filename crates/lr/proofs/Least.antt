@@ -9,7 +9,6 @@ use native.Mathlib.Decide.{ℕ-discrete}
 use Rattle.grammar.specs.Grammar.{Grammar, Formed}
 use Rattle.lr.proofs.Canonical.{Canonical, start-viable}
 use Rattle.lr.specs.Sets
-use Rattle.lr.specs.Items
 use Rattle.lr.proofs.ItemLaws.{AllProductive}
 use Rattle.lr.proofs.Automaton.{Automaton, walk, walk-snoc}
 use Rattle.lr.proofs.RelationLaws.{Reached, went, after-viable}

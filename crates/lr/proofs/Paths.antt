@@ -8,11 +8,9 @@ use native.Mathlib.Omega.{arith}
 use native.Mathlib.Decide.{ℕ-discrete}
 use mathlib.Core.Logic.{_⊎_, inl, inr}
 use Rattle.grammar.specs.Grammar.{Grammar, Formed, Symbols}
-use Rattle.grammar.proofs.Yield.{Yields}
 use Rattle.lr.proofs.Canonical.{Canonical, in-core, by-path, start-viable}
 use Rattle.lr.specs.Items
-use Rattle.lr.proofs.Firsts.{first-begins, first-follows}
-use Rattle.lr.proofs.ItemLaws.{AllProductive, all-made, after-symbols, snoc-last, not-snoc}
+use Rattle.lr.proofs.ItemLaws.{AllProductive, snoc-last, not-snoc}
 use Rattle.lr.proofs.Automaton.{Automaton, CoreClosure, given, opened, CoreAdvanced, advanced, Goes, goes, CoreStart, core-start, walk, walk-snoc, Lookahead, item-opened, closure-items, Sits, sits-lookahead, lookahead-sits, lookahead-merged}
 use Rattle.lr.specs.States.{States}
 

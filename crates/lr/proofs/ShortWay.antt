@@ -9,7 +9,7 @@ use Rattle.grammar.proofs.Derive.{derives-yields, yields-derives}
 use Rattle.lr.specs.Items.{walk, Lookahead}
 use Rattle.lr.specs.States.{States}
 use Rattle.lr.specs.Relations
-use Rattle.lr.specs.Relations.{Reaches, Union, union, Transition, Direct, shifted, ended, Read, Follow, Lookback, LA}
+use Rattle.lr.specs.Relations.{Reaches, Union, union, Transition, Direct, shifted, ended, Read, Follow, LA}
 use Rattle.lr.proofs.ItemLaws.{AllProductive}
 use Rattle.lr.proofs.Automaton.{Automaton}
 use Rattle.lr.proofs.Paths.{Has, state-automaton}

@@ -30,7 +30,7 @@ module _ (g : Grammar) where
     pub same : SameCore γ path
     pub item : SetOf g path r d a
 
-  -- the lookaheads of the complete item of production r in state q: those in the merged set of a path that leads to q
+  -- the lookaheads of the complete item of production r in state q: those in the merged set of a path that leads to q (by paths alone: `lookahead-exact` of proofs/Paths.antt)
   pub record Lookahead (next : ℕ → ℕ → ℕ) (q r a : ℕ) : Type 0 where
     pub path : List ℕ
     pub leads : walk next 0 path ≡ q
