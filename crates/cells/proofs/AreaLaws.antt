@@ -4,6 +4,7 @@ use mathlib.Core.Path.{_≡_, refl, sym, ap, _∙_, subst}
 use mathlib.Core.Logic.{_⊎_, inl, inr, ⊎-elim}
 use mathlib.Core.List.{List, [], _∷_, _++_, append-assoc}
 use native.Mathlib.Omega.{arith}
+use native.Mathlib.Nat.{le-refl}
 use native.Mathlib.Numerals.{add-one}
 use lib.ListN.{length, getD, set, take, drop, replicate, length-append, length-drop, length-replicate, length-set, take-append-drop, replicate-append-replicate}
 use lib.Seq.{length-take-le, drop-cons, set-at, getD-take, getD-drop, getD-set-same, getD-set-other, ext-getD}
@@ -149,6 +150,9 @@ module _ (c : List ℕ) (t : List ℕ) where
           ∙ getD-set-other (set t 0 n) 1 0 x 0 (λ e. omega arith) ∙ getD-set-same t 0 n 0 (omega arith)
 
 -- ---- the table area
+
+pub row-le : (c : List ℕ) (p q : ℕ) → p ≤ q → rowOf c p ≤ rowOf c q
+row-le c p q h = ⊎-elim (λ (l : p < q). let m = row-mono c p q l in omega arith) (λ (l : q ≤ p). let e : p ≡ q = omega arith in rw e (le-refl (rowOf c q))) (lt-or-ge p q)
 
 module _ (c : List ℕ) (n : ℕ) (t₁ t₂ : List ℕ) (wide : 0 < card.terminals c) (room : rowOf c n ≤ length t₁) (h : Header c n t₁ t₂) where
   -- what stands in front, by the places of the cells

@@ -3,7 +3,7 @@ use native.Mathlib.Omega.{arith}
 use borrow.Author.Needs.{needs}
 use Rattle.areas.specs.Areas.{rowOf}
 use Rattle.areas.proofs.RowLaws.{row-header}
-use Rattle.cells.proofs.AreaLaws.{finished}
+use Rattle.cells.proofs.AreaLaws.{row-le, finished}
 use Rattle.cells.proofs.finish.Statement.{statement}
 use Rattle.cells.proofs.finish.Tie as tie
 
@@ -11,14 +11,16 @@ header-requires : tie.Need-header-requires
 header-requires c κs = omega (arith, row-header (c .before .before .before .args .c .now) (c .before .before .before .args .n))
 
 row-requires : tie.Need-row-requires
-row-requires c κs = rw (c .wide .ensures) (c .before .before .before .before .before .before .before .before .pre .1)
+row-requires c κs =
+    let b8 = c .before .before .before .before .before .before .before .before in
+    omega (arith, row-le (b8 .args .c .now) (c .wide .result) (b8 .args .n) (omega (arith, c .wide .ensures)), b8 .pre .1)
 
 clear16-requires : tie.Need-clear16-requires
 clear16-requires c κs =
     let b1 = c .before in
     let b5 = b1 .before .before .before .before in
     let b9 = b5 .before .before .before .before in
-    (rw (c .row .ensures, b1 .wide .ensures) (b9 .pre .1), omega (arith, b5 .header .ensures .long, b9 .pre .2))
+    (omega (arith, c .row .ensures, row-le (b9 .args .c .now) (b1 .wide .result) (b9 .args .n) (omega (arith, b1 .wide .ensures)), b9 .pre .1), omega (arith, b5 .header .ensures .long, b9 .pre .2))
 
 returns : tie.Need-returns
 returns c =
