@@ -98,8 +98,10 @@ static void show(const uint64_t *out, const uint16_t *list)
             printf(" %u", list[i]);
     } else if (n == SIDUMZA_NO_ACTION) {
         printf("wrong at %llu: steps %llu, expected", (unsigned long long)out[SIDUMZA_POSITION], steps);
-        for (uint64_t left = out[SIDUMZA_EXPECTED]; left; left &= left - 1)
-            printf(" %u", (unsigned)sidumza_lowest(left));
+        uint8_t terminals[64];
+        size_t many = sidumza_terminals(out[SIDUMZA_EXPECTED], terminals);
+        for (size_t i = 0; i < many; i++)
+            printf(" %u", terminals[i]);
     } else if (n < SIDUMZA_NO_ACTION) {
         printf("refused %llu: %s", (unsigned long long)n, refusals[n - SIDUMZA_TABLE_SHORT]);
     } else {

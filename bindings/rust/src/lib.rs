@@ -81,6 +81,7 @@ mod archive {
             out: *mut u64,
         );
         pub fn sidumza_lowest(expected: u64) -> u32;
+        pub fn sidumza_terminals(expected: u64, out: *mut u8) -> usize;
     }
 }
 
@@ -120,12 +121,10 @@ pub fn lowest(expected: u64) -> u32 {
 /// The terminals of an expected set, ascending.
 #[cfg(feature = "parser")]
 pub fn terminals(expected: u64) -> impl Iterator<Item = u32> {
-    let mut left = expected;
-    std::iter::from_fn(move || {
-        let m = lowest(left);
-        left &= left.wrapping_sub(1);
-        (m < 64).then_some(m)
-    })
+    let mut out = [0u8; 64];
+    // SAFETY: `out` has the 64 places that are written.
+    let many = unsafe { archive::sidumza_terminals(expected, out.as_mut_ptr()) };
+    out.into_iter().take(many).map(u32::from)
 }
 
 /// The seven numbers of the C call as an answer.
