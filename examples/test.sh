@@ -3,6 +3,7 @@
 # Each answer must be the expected one; each bad file must get a message and exit status 2.
 here=$(dirname "$0")
 page=$1
+[ -x "$page" ] || { echo "examples: no program $page" >&2; exit 2; }
 tmp=$(mktemp -d) || exit 1
 trap 'rm -rf "$tmp"' EXIT
 failed=0

@@ -43,6 +43,8 @@ enum {
  *                    sides; P lengths of right sides; L symbols.
  * table, table_len   the table area. After a table it holds the table (see sidumza.h) and zeros behind it
  *                    over the first 32004 places; after 11 to 13 zeros over these.
+ *                    The table has 4 + 2 * P + Q * (T + N) numbers (its first four are Q T N P). sidumza_parse ignores
+ *                    what stands behind it, so that table_len may be passed on as it is.
  * words, words_len   a work area, 8192 places; zeros over these after a table and after 11 to 13.
  * halves, halves_len a work area, 16384 places; the same.
  * out                the answer, five numbers; all are written.

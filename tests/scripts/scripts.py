@@ -51,12 +51,14 @@ class Room:
         self.fake = self.base / "fake"
         for folder in ["crates/sets/src", "crates/grammar/src", "crates/maketable/src", "bindings/rust/src"]:
             (self.root / folder).mkdir(parents=True)
+        for file in ["Cargo.toml", "build.rs"]:
+            (self.root / "bindings/rust" / file).write_text("# a source\n")
         for script in ["maketable", "explain"]:
             shutil.copy(ROOT / script, self.root)
         shutil.copytree(ROOT / "tools", self.root / "tools", ignore=shutil.ignore_patterns("target"))
         if edit:
             old, new, *where = edit
-            path = self.root / "tools" / (where or ["program.sh"])[0]
+            path = self.root / (where or ["tools/program.sh"])[0]
             text = path.read_text()
             assert text.count(old) == 1, f"{text.count(old)} times in {path.name}: {old}"
             path.write_text(text.replace(old, new))
@@ -372,6 +374,11 @@ def explains(room):
              f"cargo build {room.root}/target/staticlib"]
     same("its calls", room.calls(), built)
     same("the second call", room.shell("./explain <card"), (0, EXPLAINED_A, ""))
+    for crate in ["tools/explain", "bindings/rust"]:
+        time.sleep(0.02)
+        (room.root / crate / "target/release").mkdir(parents=True)
+        (room.root / crate / "target/release/made.rs").write_text("made\n")
+        same(f"what cargo wrote in {crate}", room.shell("./explain <card"), (0, EXPLAINED_A, ""))
     for path in ["crates/grammar/src/lib.rt", "tools/explain/src/lib.rs", "tools/explain/Cargo.toml", "bindings/rust/src/lib.rs"]:
         before = len(room.calls())
         time.sleep(0.02)
@@ -442,6 +449,7 @@ CASES = [answers, calls, failing_calls, builds, changed_meanwhile, two_at_once, 
          unwritable, explains, layers]
 
 FAULTS = [
+    ("what cargo writes taken for a source", explains, ('"$root/bindings/rust/src" ', '"$root/bindings/rust" ', "explain")),
     ("status 0 for refusals", answers, ("exit 1 ;; esac", "exit 0 ;; esac")),
     ("status 0 for `not a card`", answers, ("'refused '* | 'not a card'*)", "'refused '*)")),
     ("the last line feed lost", answers, ("        echo .\n", "")),
@@ -475,8 +483,8 @@ FAULTS = [
     ("the log not kept", fails, ("printf '%s\\n' \"$line\" >&8", "true")),
     ("rt taken to be there", no_kit, ("command -v rt >/dev/null ||", "true ||")),
     ("flock taken to be there", no_kit, ("command -v flock >/dev/null ||", "true ||")),
-    ("only what stands directly above", layers, ("        found |= more\n", "        return found | more\n", "layers.py")),
-    ("a crate without seconds passed over", layers, ("if missing or not crates:", "if not crates:", "layers.py")),
+    ("only what stands directly above", layers, ("        found |= more\n", "        return found | more\n", "tools/layers.py")),
+    ("a crate without seconds passed over", layers, ("if missing or not crates:", "if not crates:", "tools/layers.py")),
     ("Rust sources not looked at", explains, ("-o -name '*.rs' ", "")),
     ("Cargo.toml not looked at", explains, ("-o -name Cargo.toml ", "")),
     ("an unwritable folder without words", unwritable, ("mkdir -p \"$root/target\" && true", "mkdir -p \"$root/target\" && :")),
