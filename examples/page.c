@@ -2,8 +2,8 @@
  *
  *   page TABLE [STEP_LIMIT [STACK [LIST]]]
  *
- * TABLE has the table's numbers in decimal, bare or as maketable prints them. A line is terminals in
- * decimal; an empty line is the empty input. Each line gets one line of answer.
+ * TABLE is a table as maketable prints it. A line is terminals in decimal; an empty line is the empty
+ * input. Each line gets one line of answer.
  */
 #include <ctype.h>
 #include <errno.h>
@@ -13,6 +13,7 @@
 #include <string.h>
 
 #include "sidumza.h"
+#include "sidumza_table.h"
 
 static const char *const refusals[] = {
     "table too short", "bad sizes in the table", "bad production in the table", "bad cell in the table",
@@ -63,85 +64,28 @@ static void blanks(char **s)
         ++*s;
 }
 
-/* Steps over a word of the printed form: 1 if it is there. */
-static int word(char **s, const char *w)
+/* Reads the table of a file and returns how many numbers it has. */
+static size_t load(const char *path, uint16_t *table, size_t table_len)
 {
-    size_t n = strlen(w);
-    blanks(s);
-    if (strncmp(*s, w, n) != 0 || !blank((*s)[n]))
-        return 0;
-    *s += n;
-    return 1;
-}
-
-struct table {
-    uint16_t *cells;
-    size_t len;
-};
-
-/* Appends n numbers of the text: 1 if they are there. */
-static int numbers(char **s, size_t n, struct table *t)
-{
-    unsigned long v;
-    for (; n > 0; n--) {
-        blanks(s);
-        if (!number(s, 65535, &v))
-            return 0;
-        if ((t->len & (t->len + 1)) == 0)
-            t->cells = room(t->cells, (2 * t->len + 2) * sizeof *t->cells);
-        t->cells[t->len++] = v;
-    }
-    return 1;
-}
-
-/* The printed form: table, left, length and the rows. */
-static int printed(char **s, struct table *t)
-{
-    if (!numbers(s, 4, t))
-        return 0;
-    size_t states = t->cells[0], width = (size_t)t->cells[1] + t->cells[2], productions = t->cells[3];
-    if (!word(s, "left") || !numbers(s, productions, t) || !word(s, "length") || !numbers(s, productions, t))
-        return 0;
-    for (size_t q = 0; q < states; q++) {
-        unsigned long v;
-        if (!word(s, "row"))
-            return 0;
-        blanks(s);
-        if (!number(s, 65535, &v) || v != q || !word(s, ":") || !numbers(s, width, t))
-            return 0;
-    }
-    return 1;
-}
-
-static struct table load(const char *path)
-{
-    struct table t = {NULL, 0};
+    struct sidumza_fault fault;
     FILE *f = fopen(path, "rb");
     if (!f)
         fail("%s: %s", path, strerror(errno));
-    char *text = NULL, *s;
+    char *text = NULL;
     size_t len = 0, n;
     do {
-        text = room(text, len + 65537);
+        text = room(text, len + 65536);
         n = fread(text + len, 1, 65536, f);
         len += n;
     } while (n > 0);
     if (ferror(f))
         fail("%s: cannot be read", path);
     fclose(f);
-    text[len] = 0;
-    s = text;
-    int good = strlen(text) == len;
-    if (good && word(&s, "table"))
-        good = printed(&s, &t);
-    else
-        while (good && (blanks(&s), *s))
-            good = numbers(&s, 1, &t);
-    blanks(&s);
-    if (!good || *s)
-        fail("%s: not a table", path);
+    n = sidumza_read_table(text, len, table, table_len, &fault);
+    if (n == 0)
+        fail("%s: line %zu, column %zu: %s", path, fault.line, fault.column, fault.what);
     free(text);
-    return t;
+    return n;
 }
 
 static void show(const uint64_t *out, const uint16_t *list)
@@ -154,8 +98,10 @@ static void show(const uint64_t *out, const uint16_t *list)
             printf(" %u", list[i]);
     } else if (n == SIDUMZA_NO_ACTION) {
         printf("wrong at %llu: steps %llu, expected", (unsigned long long)out[SIDUMZA_POSITION], steps);
-        for (uint64_t left = out[SIDUMZA_EXPECTED]; left; left &= left - 1)
-            printf(" %u", (unsigned)sidumza_lowest(left));
+        uint8_t terminals[64];
+        size_t many = sidumza_terminals(out[SIDUMZA_EXPECTED], terminals);
+        for (size_t i = 0; i < many; i++)
+            printf(" %u", terminals[i]);
     } else if (n < SIDUMZA_NO_ACTION) {
         printf("refused %llu: %s", (unsigned long long)n, refusals[n - SIDUMZA_TABLE_SHORT]);
     } else {
@@ -175,10 +121,11 @@ int main(int argc, char **argv)
         if (!number(&s, most[i - 2], &limits[i - 2]) || *s)
             fail("%s: not a number up to %lu", argv[i], most[i - 2]);
     }
-    struct table t = load(argv[1]);
+    static uint16_t table[SIDUMZA_TABLE_MOST];
+    size_t table_len = load(argv[1], table, SIDUMZA_TABLE_MOST);
     uint16_t *stack = room(NULL, limits[1] * sizeof *stack), *list = room(NULL, limits[2] * sizeof *list);
     uint64_t out[SIDUMZA_OUT];
-    sidumza_parse(t.cells, t.len, NULL, 0, stack, limits[1], list, limits[2], 0, out);
+    sidumza_parse(table, table_len, NULL, 0, stack, limits[1], list, limits[2], 0, out);
     if (out[0] >= SIDUMZA_TABLE_SHORT && out[0] <= SIDUMZA_BAD_CELL)
         fail("%s: refused %d: %s", argv[1], (int)out[0], refusals[out[0] - SIDUMZA_TABLE_SHORT]);
 
@@ -195,7 +142,7 @@ int main(int argc, char **argv)
             input[n++] = v;
         if (s != line + got)
             fail("line %lu: not a line of terminals", k);
-        sidumza_parse(t.cells, t.len, input, n, stack, limits[1], list, limits[2], limits[0], out);
+        sidumza_parse(table, table_len, input, n, stack, limits[1], list, limits[2], limits[0], out);
         show(out, list);
     }
     if (ferror(stdin) || fflush(stdout) != 0)
@@ -204,6 +151,5 @@ int main(int argc, char **argv)
     free(input);
     free(stack);
     free(list);
-    free(t.cells);
     return 0;
 }

@@ -2,9 +2,9 @@
 //
 //   page TABLE [STEP_LIMIT [STACK [LIST]]]
 //
-// TABLE has the table's numbers in decimal, bare or as maketable prints them. A line is terminals in
-// decimal; an empty line is the empty input. Each line gets one line of answer.
-use sidumza::{parse, terminals, Answer, Refusal};
+// TABLE is a table as maketable prints it. A line is terminals in decimal; an empty line is the empty
+// input. Each line gets one line of answer.
+use sidumza::{parse, read_table, Answer, Refusal};
 use std::io::{BufRead, Write};
 
 fn fail(why: String) -> ! {
@@ -18,78 +18,14 @@ fn number(word: &str, max: u64) -> Option<u64> {
     word.parse().ok().filter(|&v| digits && v <= max)
 }
 
-type Words<'a> = std::iter::Peekable<std::str::SplitAsciiWhitespace<'a>>;
-
-fn is(words: &mut Words, what: &str) -> Option<()> {
-    (words.next()? == what).then_some(())
-}
-
-fn numbers(words: &mut Words, n: usize, table: &mut Vec<u16>) -> Option<()> {
-    for _ in 0..n {
-        table.push(number(words.next()?, 65535)? as u16);
-    }
-    Some(())
-}
-
-// The table of a file's text.
-fn table(text: &str) -> Option<Vec<u16>> {
-    let mut words = text.split_ascii_whitespace().peekable();
-    let mut t = Vec::new();
-    if words.peek() == Some(&"table") {
-        is(&mut words, "table")?;
-        numbers(&mut words, 4, &mut t)?;
-        let [states, width, productions] = [t[0] as usize, t[1] as usize + t[2] as usize, t[3] as usize];
-        is(&mut words, "left")?;
-        numbers(&mut words, productions, &mut t)?;
-        is(&mut words, "length")?;
-        numbers(&mut words, productions, &mut t)?;
-        for q in 0..states {
-            is(&mut words, "row")?;
-            number(words.next()?, 65535).filter(|&v| v == q as u64)?;
-            is(&mut words, ":")?;
-            numbers(&mut words, width, &mut t)?;
-        }
-    } else {
-        while words.peek().is_some() {
-            numbers(&mut words, 1, &mut t)?;
-        }
-    }
-    words.next().is_none().then_some(t)
-}
-
-fn refused(refusal: Refusal) -> &'static str {
-    match refusal {
-        Refusal::TableShort => "refused 21: table too short",
-        Refusal::BadSizes => "refused 22: bad sizes in the table",
-        Refusal::BadProduction => "refused 23: bad production in the table",
-        Refusal::BadCell => "refused 24: bad cell in the table",
-        Refusal::InputLong => "refused 25: input too long",
-        Refusal::BadTerminal => "refused 26: no such terminal",
-        Refusal::NoStack => "refused 27: no stack area",
-    }
-}
-
-fn spaced<T: ToString>(values: impl Iterator<Item = T>) -> String {
-    values.map(|v| format!(" {}", v.to_string())).collect()
-}
-
 fn show(answer: Answer, list: &[u16]) -> String {
-    let (number, c) = match answer {
-        Answer::Refused { refusal } => return refused(refusal).to_string(),
+    match answer {
         Answer::Accepted { counts } => {
-            let listed = spaced(list[..counts.listed].iter());
-            return format!("accepted: steps {}, productions{listed}", counts.steps);
+            let listed: String = list[..counts.listed].iter().map(|p| format!(" {p}")).collect();
+            format!("accepted: steps {}, productions{listed}", counts.steps)
         }
-        Answer::NoAction { position, expected, counts, .. } => {
-            let expected = spaced(terminals(expected));
-            return format!("wrong at {position}: steps {}, expected{expected}", counts.steps);
-        }
-        Answer::StepLimit { counts } => (32, counts),
-        Answer::StackFull { counts } => (33, counts),
-        Answer::ListFull { counts } => (34, counts),
-        Answer::BadGoto { counts } => (35, counts),
-    };
-    format!("stopped {number}: steps {}, stack {}, listed {}", c.steps, c.depth, c.listed)
+        other => other.to_string(),
+    }
 }
 
 fn main() {
@@ -103,12 +39,11 @@ fn main() {
     }
     let path = &args[1];
     let text = std::fs::read(path).unwrap_or_else(|e| fail(format!("{path}: {e}")));
-    let text = String::from_utf8_lossy(&text);
-    let table = table(&text).unwrap_or_else(|| fail(format!("{path}: not a table")));
+    let table = read_table(&text).unwrap_or_else(|fault| fail(format!("{path}: {fault}")));
     let (mut stack, mut list) = (vec![0; limits[1] as usize], vec![0; limits[2] as usize]);
     if let Answer::Refused { refusal } = parse(&table, &[], &mut stack, &mut list, 0) {
         if refusal != Refusal::NoStack {
-            fail(format!("{path}: {}", refused(refusal)));
+            fail(format!("{path}: {refusal}"));
         }
     }
     let mut out = std::io::BufWriter::new(std::io::stdout().lock());

@@ -3,6 +3,7 @@
 # Each answer must be the expected one; each bad file must get a message and exit status 2.
 here=$(dirname "$0")
 page=$1
+[ -x "$page" ] || { echo "examples: no program $page" >&2; exit 2; }
 tmp=$(mktemp -d) || exit 1
 trap 'rm -rf "$tmp"' EXIT
 failed=0
@@ -37,8 +38,10 @@ bad() {
     fi
 }
 
-"$page" "$here/a.table" <"$here/a.lines" >"$tmp/out" || failed=1
-same a.lines "$here/a.expected"
+for example in a json; do
+    "$page" "$here/$example.table" <"$here/$example.lines" >"$tmp/out" || failed=1
+    same $example.lines "$here/$example.expected"
+done
 
 says "2 1" "stopped 32: steps 4, stack 2, listed 2" "$here/a.table" 4
 says "2 1" "stopped 33: steps 2, stack 2, listed 1" "$here/a.table" 100 2
@@ -46,7 +49,7 @@ says "2 1" "stopped 34: steps 3, stack 3, listed 1" "$here/a.table" 100 10 1
 says "2 1" "refused 27: no stack area" "$here/a.table" 100 0
 says "" "accepted: steps 2, productions 0" "$here/empty.table"
 says "" "wrong at 0: steps 0, expected 2" "$here/a.table" 0 1 0
-echo "1 1 1 1 1 1 1024 0" >"$tmp/foreign"
+printf 'table 1 1 1 1\nleft 1\nlength 1\nrow 0 : 1024 0\n' >"$tmp/foreign"
 says "" "stopped 35: steps 0, stack 1, listed 0" "$tmp/foreign"
 awk 'BEGIN { printf "2"; for (i = 0; i < 65535; i++) printf " 1"; print "" }' >"$tmp/long"
 says "$(cat "$tmp/long")" "refused 25: input too long" "$here/a.table"
@@ -63,12 +66,38 @@ bad "2 256\n" "$here/a.table"
 bad "2 -1\n" "$here/a.table"
 bad "2\0001\n" "$here/a.table"
 bad "99999999999999999999999\n" "$here/a.table"
-for edit in '$d' 's/row 2/row 3/' 's/4096/65536/' 's/4096/4095/' 's/table 4/table 5/' 's/table 4/table 65535/' \
-    's/table 4/table 0/' 's/left 3/left 2/' 's/length 2/length 513/' 's/ 3 0 0/ 4 0 0/' 's/:/;/' '$s/$/ 7/' 's/left/lift/' \
-    '1s/.*/refused 4/' '1s/.*/not a card/'; do
-    sed "$edit" "$here/a.table" >"$tmp/bad"
-    bad "2 1\n" "$tmp/bad"
-done
+# wrong EDIT MESSAGE: the table of a.card, edited, gets status 2 and this message
+wrong() {
+    sed "$1" "$here/a.table" >"$tmp/bad"
+    ! cmp -s "$here/a.table" "$tmp/bad" || { echo "examples: nothing changed by $1"; failed=1; }
+    printf '2 1\n' | "$page" "$tmp/bad" >"$tmp/out" 2>"$tmp/err"
+    status=$?
+    if [ $status -ne 2 ] || [ "$(cat "$tmp/err")" != "page: $tmp/bad: $2" ]; then
+        echo "examples: $page: table edited by $1: exit $status, message '$(cat "$tmp/err")', expected '$2'"
+        failed=1
+    fi
+}
+
+wrong '$d' "line 7, column 1: expected \`row\`, found the end"
+wrong '2,$d' "line 2, column 1: expected \`left\`, found the end"
+wrong 's/row 2/row 3/' "line 6, column 5: expected state 2, found \`3\`"
+wrong 's/4096/65536/' "line 6, column 9: expected a cell, 0 to 65535, found \`65536\`"
+wrong 's/4096/4x96/' "line 6, column 9: expected a cell, 0 to 65535, found \`4x96\`"
+wrong 's/table 4/table 5/' "line 8, column 1: expected \`row\`, found the end"
+wrong 's/table 4/table 257/' "line 1, column 7: expected the number of states, 1 to 256, found \`257\`"
+wrong 's/table 4/table 0/' "line 1, column 7: expected the number of states, 1 to 256, found \`0\`"
+wrong 's/table 4 3/table 4 65/' "line 1, column 9: expected the number of terminals, 1 to 64, found \`65\`"
+wrong 's/left 3 3/left 3/' "line 3, column 1: expected a left side, 0 to 65535, found \`length\`"
+wrong 's/left 3 3/left 3 3 3/' "line 2, column 10: expected \`length\`, found \`3\`"
+wrong 's/:/;/' "line 4, column 7: expected \`:\`, found \`;\`"
+wrong '$s/$/ 7/' "line 7, column 23: expected the end, found \`7\`"
+wrong 's/left/lift/' "line 2, column 1: expected \`left\`, found \`lift\`"
+wrong '1s/.*/refused 4/' "line 1, column 1: expected \`table\`, found \`refused\`"
+wrong '1s/.*/not a card/' "line 1, column 1: expected \`table\`, found \`not\`"
+wrong 's/left 3/left 2/' "refused 23: bad production in the table"
+wrong 's/length 2/length 513/' "refused 23: bad production in the table"
+wrong 's/4096/4095/' "refused 24: bad cell in the table"
+wrong 's/ 3 0 0/ 4 0 0/' "refused 24: bad cell in the table"
 head -c 1000 /dev/urandom >"$tmp/bad"
 bad "" "$tmp/bad"
 exit $failed

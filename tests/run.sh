@@ -10,6 +10,13 @@ command -v bison >/dev/null || { apt-get install -y bison || { apt-get update &&
     echo "Bison cannot be installed here"
 sh tests/reader/run.sh
 MAKETABLE=target/bin/maketable sh tests/generator/run.sh
-# the script, and the examples' tables: one as it is printed, one as its bare numbers
-./maketable <examples/a.card | cmp - examples/a.table
-echo "1 1 1 0 1 0" | ./maketable | sed 's/^row [0-9]* ://; s/^[a-z]*//' | xargs | cmp - examples/empty.table
+# the scripts and the tool beside the proofs; the first call builds it
+./explain <examples/a.card >/dev/null
+python3 tests/scripts/scripts.py target/bin/maketable target/cargo/release/explain
+sh tests/explain/run.sh
+# the examples' tables, and what the documents say
+for example in a json; do
+    ./maketable <examples/$example.card | cmp - examples/$example.table
+done
+echo "1 1 1 0 1 0" | ./maketable | cmp - examples/empty.table
+python3 tests/docs/check.py

@@ -24,3 +24,7 @@ gcc -O2 -Wall -Wextra -I"$root/bindings/c" -I"$out" bench.c "$out/loop.o" $objec
 bison --version | head -1
 gcc --version | head -1
 "$out/bench"
+# what a call costs beside its steps; the numbers stand in bindings/c/sidumza.h
+gcc -O2 -Wall -Wextra -I"$root/bindings/c" calls.c "$root/bindings/c/sidumza_table.c" "$archive" -o "$out/calls"
+"$out/calls" "$root/examples/a.table" 2 1 1 1
+"$out/calls" "$root/examples/json.table" 1 7 6 3 8 5 9 4 2

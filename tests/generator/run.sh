@@ -96,6 +96,8 @@ all() {
     step build-maketable cargo build --offline --release --manifest-path "$tests/reference/Cargo.toml"
     step build-random cargo build --offline --release --manifest-path "$tests/generator/Cargo.toml"
     [ -n "${STAND_IN:-}" ] || step symbols symbols
+    [ -n "${STAND_IN:-}" ] || step binding env SIDUMZA_LIB="$(dirname "$generator")" cargo test --offline --release \
+        --tests --features generator --manifest-path "$root/bindings/rust/Cargo.toml"
     step header header
     step build-compare program compare "$tests/bison/compare.c" "$generator"
     step build-compare-reference program compare-reference "$tests/bison/compare.c" "$reference"

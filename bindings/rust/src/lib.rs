@@ -2,7 +2,18 @@
 //!
 //! The parser is the archive `libparser_c.a`; its duties towards the caller (pointers valid for their
 //! lengths, areas that do not overlap) are met by the slices of [`parse`]. `bindings/c/sidumza.h`
-//! describes the table and the areas.
+//! describes the table and the areas, and says how long they should be.
+//!
+//! [`read_table`] reads a table from the text that `maketable` prints. With the feature `generator` the module
+//! [`generator`] makes tables; it needs the archive `libgenerator_c.a`. The feature `parser`, on where nothing else is
+//! said, is the parser.
+
+#[cfg(feature = "generator")]
+pub mod generator;
+mod table;
+mod words;
+
+pub use table::{read_table, TableFault};
 
 /// Why a call is refused. A refusal changes neither area.
 #[derive(Clone, Copy, Debug, PartialEq, Eq)]
@@ -54,6 +65,7 @@ pub enum Answer {
     BadGoto { counts: Counts },
 }
 
+#[cfg(feature = "parser")]
 mod archive {
     extern "C" {
         pub fn sidumza_parse(
@@ -69,6 +81,7 @@ mod archive {
             out: *mut u64,
         );
         pub fn sidumza_lowest(expected: u64) -> u32;
+        pub fn sidumza_terminals(expected: u64, out: *mut u8) -> usize;
     }
 }
 
@@ -76,6 +89,7 @@ mod archive {
 ///
 /// After an end the used places of `stack` and `list` hold states and productions; popped places
 /// of `stack` are 0, and places never used are unchanged.
+#[cfg(feature = "parser")]
 pub fn parse(table: &[u16], input: &[u8], stack: &mut [u16], list: &mut [u16], step_limit: u32) -> Answer {
     let mut out = [0u64; 7];
     // SAFETY: each pointer comes with the length of its slice, `out` has the seven places that are
@@ -94,47 +108,44 @@ pub fn parse(table: &[u16], input: &[u8], stack: &mut [u16], list: &mut [u16], s
             out.as_mut_ptr(),
         );
     }
-    Answer::from(out)
+    answer(out)
 }
 
 /// The lowest terminal of an expected set, 64 where the set is empty.
+#[cfg(feature = "parser")]
 pub fn lowest(expected: u64) -> u32 {
     // SAFETY: the function takes and gives a number, and asks nothing of it.
     unsafe { archive::sidumza_lowest(expected) }
 }
 
 /// The terminals of an expected set, ascending.
+#[cfg(feature = "parser")]
 pub fn terminals(expected: u64) -> impl Iterator<Item = u32> {
-    let mut left = expected;
-    std::iter::from_fn(move || {
-        let m = lowest(left);
-        left &= left.wrapping_sub(1);
-        (m < 64).then_some(m)
-    })
+    let mut out = [0u8; 64];
+    // SAFETY: `out` has the 64 places that are written.
+    let many = unsafe { archive::sidumza_terminals(expected, out.as_mut_ptr()) };
+    out.into_iter().take(many).map(u32::from)
 }
 
-impl From<[u64; 7]> for Answer {
-    /// Reads the seven numbers of the C call. Other numbers than its own are a fault, and panic.
-    fn from(out: [u64; 7]) -> Answer {
-        let counts = Counts { steps: out[1] as u32, depth: out[2] as usize, listed: out[3] as usize };
-        let refused = |refusal| Answer::Refused { refusal };
-        match out[0] {
-            0 => Answer::Accepted { counts },
-            21 => refused(Refusal::TableShort),
-            22 => refused(Refusal::BadSizes),
-            23 => refused(Refusal::BadProduction),
-            24 => refused(Refusal::BadCell),
-            25 => refused(Refusal::InputLong),
-            26 => refused(Refusal::BadTerminal),
-            27 => refused(Refusal::NoStack),
-            31 => {
-                Answer::NoAction { position: out[4] as usize, expected: out[5], expected_count: out[6] as u32, counts }
-            }
-            32 => Answer::StepLimit { counts },
-            33 => Answer::StackFull { counts },
-            34 => Answer::ListFull { counts },
-            35 => Answer::BadGoto { counts },
-            n => unreachable!("the parser answers no {n}"),
-        }
+/// The seven numbers of the C call as an answer.
+#[cfg(feature = "parser")]
+fn answer(out: [u64; 7]) -> Answer {
+    let counts = Counts { steps: out[1] as u32, depth: out[2] as usize, listed: out[3] as usize };
+    let refused = |refusal| Answer::Refused { refusal };
+    match out[0] {
+        0 => Answer::Accepted { counts },
+        21 => refused(Refusal::TableShort),
+        22 => refused(Refusal::BadSizes),
+        23 => refused(Refusal::BadProduction),
+        24 => refused(Refusal::BadCell),
+        25 => refused(Refusal::InputLong),
+        26 => refused(Refusal::BadTerminal),
+        27 => refused(Refusal::NoStack),
+        31 => Answer::NoAction { position: out[4] as usize, expected: out[5], expected_count: out[6] as u32, counts },
+        32 => Answer::StepLimit { counts },
+        33 => Answer::StackFull { counts },
+        34 => Answer::ListFull { counts },
+        35 => Answer::BadGoto { counts },
+        n => unreachable!("the archive answers {n}: it is not the one that this crate was written for"),
     }
 }

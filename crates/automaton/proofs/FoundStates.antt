@@ -21,13 +21,15 @@ use Rattle.sets.proofs.ListLaws.{each-same}
 use Rattle.sets.specs.Lists.{each}
 use Rattle.states.proofs.RowLaws.{given-known}
 use Rattle.states.proofs.TableLaws.{transition-none, taken-same}
+use Rattle.lr.proofs.Canonical.{Canonical, in-core, by-path, start-viable}
 use Rattle.lr.specs.Items
 use Rattle.lr.specs.States.{Given, Taken, rowOf as cellsOf, States, MoreStates}
 use Rattle.lr.proofs.Automaton.{Automaton, CoreClosure, given, opened, CoreStart, core-start, CoreAdvanced, advanced, Goes as GoesOn, goes}
-use Rattle.lr.proofs.Paths.{closure-items, moved-item, items-behind, items-first}
+use Rattle.lr.proofs.Automaton.{closure-items}
+use Rattle.lr.proofs.Paths.{moved-item, items-behind, items-first}
 use Rattle.lr.proofs.Unique.{first-of}
 use Rattle.closures.specs.Sets.{Goes, Start, Alike}
-use Rattle.tables.specs.Layout.{rowOf}
+use Rattle.areas.specs.Areas.{rowOf}
 use Rattle.states.specs.States.{transition, Cell, vacant, leads, Apart, Crowd, Table}
 
 module _ (c : List ℕ) (f : WellFormed c) where
@@ -157,16 +159,16 @@ module _ (c : List ℕ) (f : WellFormed c) where
     good-start s st =
         record {
           path = [];
-          viable = Items.by-item (Items.with-lookahead Items.start);
+          viable = start-viable (grammarOf c);
           items = λ r d. (λ i. closure-items (grammarOf c) (formed c f) pr first-one (start-items c f s st r d .0 i), λ i. start-items c f s st r d .1 (back i));
           valid = start-all c f s st;
         }
       where
         first-one : (r d : ℕ) → CoreStart (grammarOf c) r d → Items.Item (grammarOf c) [] r d
-        first-one r d core-start = Items.with-lookahead Items.start
+        first-one r d core-start = in-core Canonical.start
 
         back : {r d : ℕ} → Items.Item (grammarOf c) [] r d → CoreClosure (grammarOf c) (CoreStart (grammarOf c)) r d
-        back (Items.with-lookahead i) = items-first (grammarOf c) (formed c f) pr i refl
+        back (Items.with-lookahead _ i) = items-first (grammarOf c) (formed c f) pr (by-path i) refl
 
     good-next : (s : List ℕ) (x : ℕ) (u : List ℕ) → 0 < x → Good s → Goes c s x u → Good u
     good-next s x u l p g =
@@ -184,10 +186,10 @@ module _ (c : List ℕ) (f : WellFormed c) where
         down r d (advanced {d = d′} i e) = advanced (p .items r d′ .1 i) e
 
         behind : {r d : ℕ} → Items.Item (grammarOf c) (p .path ++ x ∷ []) r d → CoreClosure (grammarOf c) (CoreAdvanced (grammarOf c) (Items.Item (grammarOf c) (p .path)) x) r d
-        behind (Items.with-lookahead i) = items-behind (grammarOf c) (formed c f) pr i refl
+        behind (Items.with-lookahead _ i) = items-behind (grammarOf c) (formed c f) pr (by-path i) refl
 
         via₂ : {r d : ℕ} {β : List ℕ} → Items.Item (grammarOf c) (p .path) r d → drop d (rightOf c r) ≡ x ∷ β → Items.Viable (grammarOf c) (p .path ++ x ∷ [])
-        via₂ (Items.with-lookahead i) e = Items.by-item (Items.with-lookahead (Items.goto i e))
+        via₂ (Items.with-lookahead _ i) e = Items.by-item (in-core (Canonical.goto (by-path i) e))
 
         via : GoesOn (grammarOf c) (In c s) x → Items.Viable (grammarOf c) (p .path ++ x ∷ [])
         via (goes {r} {d} i e) = via₂ (p .items r d .0 i) e

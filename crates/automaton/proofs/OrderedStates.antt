@@ -8,6 +8,7 @@ use native.Mathlib.Omega.{arith}
 use Rattle.grammar.specs.Grammar.{Grammar, Formed}
 use Rattle.lr.proofs.ItemLaws.{AllProductive}
 use Rattle.sets.specs.Bit.{count}
+use Rattle.lr.proofs.Canonical.{by-path, start-viable}
 use Rattle.lr.specs.Items
 use Rattle.lr.specs.States.{Taken, rowOf as cellsOf, States}
 use Rattle.lr.proofs.Automaton.{Automaton, CoreClosure, given, opened, CoreAdvanced, advanced, goes, walk, walk-snoc, has-of, same-state, same-core, viable-below}
@@ -35,14 +36,14 @@ module _ (g : Grammar) (f : Formed g) (pr : AllProductive g) (count : ℕ) (has 
   path-to (suc n) q h k = go (ℕ-discrete q 0) (λ p l. path-to n p (omega arith) (omega arith))
     where
       go : Dec (q ≡ 0) → ((p : ℕ) → p < q → Path p) → Path q
-      go (yes e) ih = rw e (record { path = []; viable = Items.by-item (Items.with-lookahead Items.start); leads = refl })
+      go (yes e) ih = rw e (record { path = []; viable = start-viable g; leads = refl })
       go (no z) ih = let t = first-of g next order q (omega arith) k in path-next (t .from) q (t .on) (ih (t .from) (t .lower)) (t .is) z
 
   viable-moves : (γ : List ℕ) (x : ℕ) → Items.Viable g (γ ++ x ∷ []) → next (walk next 0 γ) x ≢ 0
-  viable-moves γ x (Items.by-item (Items.with-lookahead i)) = go (items-behind g f pr i refl)
+  viable-moves γ x (Items.by-item (Items.with-lookahead _ i)) = go (items-behind g f pr (by-path i) refl)
     where
       go : {r d : ℕ} → CoreClosure g (CoreAdvanced g (Items.Item g γ) x) r d → next (walk next 0 γ) x ≢ 0
-      go (given (advanced (Items.with-lookahead j) e)) = let t = has-of g f pr count has next au j in au .next-some (t .0) .1 (goes (t .1) e)
+      go (given (advanced (Items.with-lookahead _ j) e)) = let t = has-of g f pr count has next au (by-path j) in au .next-some (t .0) .1 (goes (t .1) e)
       go (opened c e h) = go c
 
   pub ordered-states : States g count next

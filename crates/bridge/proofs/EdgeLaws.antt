@@ -14,6 +14,7 @@ use Rattle.lr.proofs.ItemLaws.{drop-next, symbols-drop}
 use Rattle.transitions.specs.Area.{leavesOf, nonterminalOf, nullablesOf}
 use Rattle.transitions.specs.Occurrences.{symbolAt, Nullable}
 use Rattle.relations.specs.Edge.{Edge}
+use Rattle.relations.specs.declared.Relation.the-variants as relation
 use Rattle.bridge.specs.Premises.{Followed, transitionOf}
 use Rattle.bridge.proofs.Numbering.{card-formed, card-productive}
 use Rattle.bridge.proofs.RightSides.{right-symbol, dot-below, dot-symbol, list-all, all-list}
@@ -30,9 +31,9 @@ module _ {c w : List ℕ} {n k e : ℕ} {next : ℕ → ℕ → ℕ} {z : List �
   pub reads-listed : {t u : Transition} → Relations.Reads (grammarOf c) next t u → (j : ℕ) × (j < k) × (transitionOf w j ≡ u)
   reads-listed {u = u} r = listed-at u (empty-one h (r .nullable) .nonterminal) (r .move)
 
-  pub reads-is : (i j : ℕ) → i < k → j < k → Edge 0 c w k i j ↔ Relations.Reads (grammarOf c) next (transitionOf w i) (transitionOf w j)
+  pub reads-is : (i j : ℕ) → i < k → j < k → Edge relation.Reads c w k i j ↔ Relations.Reads (grammarOf c) next (transitionOf w i) (transitionOf w j)
   reads-is i j hi hj = (
-    λ x. (let r = x .reads refl in
+    λ x. (let r = x .related in
         record {
           enters = sym (h .listed .target i hi) ∙ sym (r .state);
           some = h .listed .some i hi;
@@ -42,12 +43,11 @@ module _ {c w : List ℕ} {n k e : ℕ} {next : ℕ → ℕ → ℕ} {z : List �
     λ r.
         record {
           inside = hj;
-          reads = λ _.
+          related =
               record {
                 state = sym (r .enters) ∙ sym (h .listed .target i hi);
                 nullable = empty-one h (r .nullable);
               };
-          includes = λ no. absurd (no refl);
         },
   )
 
@@ -56,12 +56,9 @@ module _ {c w : List ℕ} {n k e : ℕ} {next : ℕ → ℕ → ℕ} {z : List �
   pub includes-listed : {t u : Transition} → Relations.Includes (grammarOf c) next t u → (j : ℕ) × (j < k) × (transitionOf w j ≡ u)
   includes-listed {u = u} r = listed-at u (rw (r .left) (card-formed (h .stated) .left-nonterminal (r .production) (r .below))) (r .move)
 
-  not-zero : _≡_ {A = ℕ} 1 0 → ⊥
-  not-zero e = omega arith
-
-  edge-includes : (i j : ℕ) → i < k → j < k → Edge 1 c w k i j → Relations.Includes (grammarOf c) next (transitionOf w i) (transitionOf w j)
+  edge-includes : (i j : ℕ) → i < k → j < k → Edge relation.Includes c w k i j → Relations.Includes (grammarOf c) next (transitionOf w i) (transitionOf w j)
   edge-includes i j hi hj x =
-      let r = x .includes not-zero in
+      let r = x .related in
       let b : r .production < productions c = r .occurs .production in
       let l : r .dot < length (rightOf c (r .production)) = rw (right-length c (r .production) b) (r .occurs .within) in
       let front = take (r .dot) (rightOf c (r .production)) in
@@ -81,15 +78,14 @@ module _ {c w : List ℕ} {n k e : ℕ} {next : ℕ → ℕ → ℕ} {z : List �
         move = h .listed .some j hj;
       }
 
-  includes-edge : (i j : ℕ) → i < k → j < k → Relations.Includes (grammarOf c) next (transitionOf w i) (transitionOf w j) → Edge 1 c w k i j
+  includes-edge : (i j : ℕ) → i < k → j < k → Relations.Includes (grammarOf c) next (transitionOf w i) (transitionOf w j) → Edge relation.Includes c w k i j
   includes-edge i j hi hj r =
       let d = length (r .front) in
       let at-dot : drop (length (r .front)) (rightOf c (r .production)) ≡ nonterminalOf w i ∷ r .behind = ap (drop (length (r .front))) (r .right) ∙ drop-append-seam (r .front) (nonterminalOf w i ∷ r .behind) in
       let symbol : symbolAt c (r .production) (length (r .front)) ≡ nonterminalOf w i = dot-symbol c (r .production) (r .below) (length (r .front)) at-dot in
       record {
         inside = hj;
-        reads = λ e. absurd (not-zero e);
-        includes = λ _.
+        related =
             record {
               production = r .production;
               dot = d;
@@ -106,5 +102,5 @@ module _ {c w : List ℕ} {n k e : ℕ} {next : ℕ → ℕ → ℕ} {z : List �
             };
       }
 
-  pub includes-is : (i j : ℕ) → i < k → j < k → Edge 1 c w k i j ↔ Relations.Includes (grammarOf c) next (transitionOf w i) (transitionOf w j)
+  pub includes-is : (i j : ℕ) → i < k → j < k → Edge relation.Includes c w k i j ↔ Relations.Includes (grammarOf c) next (transitionOf w i) (transitionOf w j)
   includes-is i j hi hj = (edge-includes i j hi hj, includes-edge i j hi hj)

@@ -1,6 +1,6 @@
 -- The sets that the two walks complete are Read and Follow, and what looks back to them are the lookaheads.
 use Prim.Native.Nat.{ℕ, _<_}
-use mathlib.Core.Path.{_≡_, refl, sym, ap}
+use mathlib.Core.Path.{_≡_, refl, sym, ap, _∙_}
 use mathlib.Core.Logic.{_↔_, _≢_, inl, inr}
 use mathlib.Core.List.{List, [], append-nil}
 use lib.ListN.{getD}
@@ -9,10 +9,10 @@ use Rattle.grammar.specs.Card.{productions, leftOf, lengthOf, rightOf, grammarO
 use Rattle.grammar.proofs.CardLaws.{right-length}
 use Rattle.lr.specs.Items.{walk, Lookahead}
 use Rattle.lr.specs.Relations
-use Rattle.lr.specs.Relations.{Union, union, Transition, Read, Follow, Lookback}
+use Rattle.lr.specs.Relations.{Union, union, Transition, Read, Follow, LA}
 use Rattle.lr.specs.Relations.Direct.{shifted, ended}
 use Rattle.lr.proofs.ShortWay.{short-way}
-use Rattle.transitions.specs.Area.{leavesOf}
+use Rattle.transitions.specs.Area.{leavesOf, nonterminalOf}
 use Rattle.transitions.specs.Data.{Direct}
 use Rattle.relations.specs.Path.{Leads}
 use Rattle.digraph.specs.Completion.{Reaches, Join, Completed, at}
@@ -76,27 +76,27 @@ module _ {c w : List ℕ} {n k e : ℕ} {next : ℕ → ℕ → ℕ} {z : List �
     right-leads : (p q : ℕ) → next p (leftOf c r) ≢ 0 → Leads c w r (lengthOf c r) q p ↔ (walk next p (rightOf c r) ≡ q)
     right-leads p q nz = leads-is (h .stated) (h .listed) r b p q (lengthOf c r) nz (rightOf c r) [] (sym (append-nil (rightOf c r))) (right-length c r b)
 
-    look-lookback : (q m : ℕ) → LooksBack c w z k q r m ↔ Lookback (grammarOf c) next q r m
-    look-lookback q m = (
-      λ l. (let nz : next (leavesOf w (l .transition)) (leftOf c r) ≢ 0 = rw (← l .left) (h .listed .some (l .transition) (l .below)) in
+    look-la : (q m : ℕ) → LooksBack c w z k q r m ↔ LA (grammarOf c) next q r m
+    look-la q m = (
+      λ l. (let nz : next (leavesOf w (l .transition)) (nonterminalOf w (l .transition)) ≢ 0 = h .listed .some (l .transition) (l .below) in
           record {
-            from = leavesOf w (l .transition);
-            move = nz;
-            leads = right-leads (leavesOf w (l .transition)) q nz .0 (l .leads);
-            follows = rw (l .left) at (follow-is (l .transition) m (l .below) .0 (l .follows));
+            transition = transitionOf w (l .transition);
+            looks = record { below = b; left = l .left; move = nz; leads = right-leads (leavesOf w (l .transition)) q (rw (← l .left) nz) .0 (l .leads) };
+            follows = follow-is (l .transition) m (l .below) .0 (l .follows);
           }),
-      λ l. (let t = listed-at h (record { state = l .from; symbol = leftOf c r }) (card-formed (h .stated) .left-nonterminal r b) (l .move) in
+      λ l. (let o = l .looks in let nz : next (l .transition .state) (leftOf c r) ≢ 0 = rw (o .left) at (o .move) in
+          let t = listed-at h (l .transition) (rw (o .left) (card-formed (h .stated) .left-nonterminal r b)) (o .move) in
           record {
             transition = t .0;
             below = t .1;
-            left = ap (λ (u : Transition). u .symbol) (t .2);
-            leads = rw (ap (λ (u : Transition). u .state) (t .2)) (right-leads (l .from) q (l .move) .1 (l .leads));
+            left = ap (λ (u : Transition). u .symbol) (t .2) ∙ o .left;
+            leads = rw (ap (λ (u : Transition). u .state) (t .2)) (right-leads (l .transition .state) q nz .1 (o .leads));
             follows = follow-is (t .0) m (t .1) .1 (rw (t .2) (l .follows));
           }),
     )
 
     pub look-is : (q m : ℕ) → LooksBack c w z k q r m ↔ Lookahead (grammarOf c) next q r m
     look-is q m =
-        let l = look-lookback q m in
+        let l = look-la q m in
         let a = short-way (grammarOf c) (card-formed (h .stated)) (card-productive (h .stated)) n next (h .stated .states) (h .stated .inside) q r m b in
         (λ x. a .1 (l .0 x), λ x. l .1 (a .0 x))

@@ -9,6 +9,7 @@ use native.Mathlib.Decide.{ℕ-discrete}
 use Rattle.grammar.specs.Grammar.{Grammar, Formed}
 use Rattle.grammar.specs.Card.{terminals, nonterminals, grammarOf}
 use Rattle.grammar.proofs.CardLaws.{well-formed, formed}
+use Rattle.lr.proofs.Canonical.{Canonical, in-core, by-path}
 use Rattle.lr.specs.Items
 use Rattle.lr.specs.Items.{walk}
 use Rattle.lr.proofs.Runs
@@ -22,25 +23,25 @@ use Rattle.bridge.proofs.RightSides.{first-at}
 
 module _ (g : Grammar) where
   -- the set behind a path that ends in a symbol has an item with a moved dot
-  kernel : {δ : List ℕ} {r d a : ℕ} → Items.Canonical g δ r d a → (γ : List ℕ) (x : ℕ) → δ ≡ γ ++ x ∷ [] → (s : ℕ) × (i : ℕ) × Items.Item g δ s (suc i)
-  kernel Items.start γ x e = absurd (not-snoc γ x e)
-  kernel (Items.close i k h fi) γ x e = kernel i γ x e
-  kernel (Items.goto {r} {d} i k) γ x e = (r, d, Items.with-lookahead (Items.goto i k))
+  kernel : {δ : List ℕ} {r d a : ℕ} → Canonical g δ r d a → (γ : List ℕ) (x : ℕ) → δ ≡ γ ++ x ∷ [] → (s : ℕ) × (i : ℕ) × Items.Item g δ s (suc i)
+  kernel Canonical.start γ x e = absurd (not-snoc γ x e)
+  kernel (Canonical.close i k h fi) γ x e = kernel i γ x e
+  kernel (Canonical.goto {r} {d} i k) γ x e = (r, d, in-core (Canonical.goto i k))
 
   -- and the dot was moved over that symbol
-  moved-over : {δ : List ℕ} {r d i a : ℕ} → Items.Canonical g δ r d a → d ≡ suc i → (γ : List ℕ) (x : ℕ) → δ ≡ γ ++ x ∷ [] → getD (g.right r) i 0 ≡ x
-  moved-over Items.start k γ x e = absurd (omega arith)
-  moved-over (Items.close j k h fi) n γ x e = absurd (omega arith)
-  moved-over {i} (Items.goto {γ = γ′} {r = r} {d = d} {x = y} j k) n γ x e =
+  moved-over : {δ : List ℕ} {r d i a : ℕ} → Canonical g δ r d a → d ≡ suc i → (γ : List ℕ) (x : ℕ) → δ ≡ γ ++ x ∷ [] → getD (g.right r) i 0 ≡ x
+  moved-over Canonical.start k γ x e = absurd (omega arith)
+  moved-over (Canonical.close j k h fi) n γ x e = absurd (omega arith)
+  moved-over {i} (Canonical.goto {γ = γ′} {r = r} {d = d} {x = y} j k) n γ x e =
       let o : d ≡ i = omega arith in
       rw (← o) (first-at d (g.right r) k) ∙ snoc-last γ′ γ y x e .1
 
   -- so sets with one core are entered by one symbol
   one-symbol : (γ δ : List ℕ) (x y : ℕ) → Items.Viable g (γ ++ x ∷ []) → Items.SameCore g (γ ++ x ∷ []) (δ ++ y ∷ []) → x ≡ y
-  one-symbol γ δ x y (Items.by-item (Items.with-lookahead i)) s = let t = kernel i γ x refl in go (t .2) (s .to (t .0) (suc (t .1)) (t .2))
+  one-symbol γ δ x y (Items.by-item (Items.with-lookahead _ i)) s = let t = kernel (by-path i) γ x refl in go (t .2) (s .to (t .0) (suc (t .1)) (t .2))
     where
       go : {r d : ℕ} → Items.Item g (γ ++ x ∷ []) r (suc d) → Items.Item g (δ ++ y ∷ []) r (suc d) → x ≡ y
-      go (Items.with-lookahead i) (Items.with-lookahead j) = sym (moved-over i refl γ x refl) ∙ moved-over j refl δ y refl
+      go (Items.with-lookahead _ i) (Items.with-lookahead _ j) = sym (moved-over (by-path i) refl γ x refl) ∙ moved-over (by-path j) refl δ y refl
 
 module _ {c : List ℕ} {n : ℕ} {next : ℕ → ℕ → ℕ} (s : Stated c n next) where
   pub card-formed : Formed (grammarOf c)
@@ -59,7 +60,7 @@ module _ {c : List ℕ} {n : ℕ} {next : ℕ → ℕ → ℕ} (s : Stated c n n
       (t .0, t .1, t .2, went (grammarOf c) card-formed card-productive n (Has (grammarOf c) next) next automaton (t .1) (rw (t .2) nz))
 
   after-below : {γ : List ℕ} {x : ℕ} → Runs.After (grammarOf c) γ x → x < terminals c + nonterminals c
-  after-below (Runs.dot-before (Items.with-lookahead i) e) = symbol-below (grammarOf c) card-formed card-productive i e
+  after-below (Runs.dot-before (Items.with-lookahead _ i) e) = symbol-below (grammarOf c) card-formed card-productive (by-path i) e
 
   next-below : (p x : ℕ) → next p x < n
   next-below p x = go (ℕ-discrete (next p x) 0)

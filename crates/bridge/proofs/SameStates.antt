@@ -8,6 +8,7 @@ use native.Mathlib.Decide.{decLt}
 use borrow.Author.Tests.{le-ltb}
 use Rattle.sets.proofs.ListLaws.{each-same}
 use Rattle.grammar.specs.Grammar.{Grammar}
+use Rattle.lr.proofs.Canonical.{Canonical, in-core, by-path}
 use Rattle.lr.specs.Items
 use Rattle.lr.specs.Items.{walk}
 use Rattle.lr.specs.States.{Taken, rowOf, States}
@@ -15,14 +16,14 @@ use Rattle.lr.proofs.Automaton.{walk-snoc}
 use Rattle.transitions.specs.Next.{nextOf}
 
 module _ (g : Grammar) (n : ℕ) (next next′ : ℕ → ℕ → ℕ) (same : (q x : ℕ) → q < n → next q x ≡ next′ q x) (st : States g n next) where
-  walk-item : {γ : List ℕ} {r d a : ℕ} → Items.Canonical g γ r d a → walk next′ 0 γ ≡ walk next 0 γ
-  walk-item Items.start = refl
-  walk-item (Items.close i e h f) = walk-item i
-  walk-item (Items.goto {γ} {x} i e) =
-      walk-snoc next′ 0 γ x ∙ ap (λ (q : ℕ). next′ q x) (walk-item i) ∙ sym (same (walk next 0 γ) x (st .below (Items.by-item (Items.with-lookahead i)))) ∙ sym (walk-snoc next 0 γ x)
+  walk-item : {γ : List ℕ} {r d a : ℕ} → Canonical g γ r d a → walk next′ 0 γ ≡ walk next 0 γ
+  walk-item Canonical.start = refl
+  walk-item (Canonical.close i e h f) = walk-item i
+  walk-item (Canonical.goto {γ} {x} i e) =
+      walk-snoc next′ 0 γ x ∙ ap (λ (q : ℕ). next′ q x) (walk-item i) ∙ sym (same (walk next 0 γ) x (st .below (Items.by-item (in-core i)))) ∙ sym (walk-snoc next 0 γ x)
 
   walk-same : {γ : List ℕ} → Items.Viable g γ → walk next′ 0 γ ≡ walk next 0 γ
-  walk-same (Items.by-item (Items.with-lookahead i)) = walk-item i
+  walk-same (Items.by-item (Items.with-lookahead _ i)) = walk-item (by-path i)
 
   taken-same : {q m : ℕ} → Taken (rowOf g next) q m → q ≤ n → Taken (rowOf g next′) q m
   taken-same Taken.none h = Taken.none

@@ -13,6 +13,7 @@ use Rattle.lr.specs.Relations.{Transition}
 use Rattle.transitions.specs.Area.{leavesOf, nonterminalOf}
 use Rattle.transitions.specs.Data.{Data, Holds, Direct}
 use Rattle.relations.specs.Edge.{Edge}
+use Rattle.relations.specs.declared.Relation.the-variants as relation
 use Rattle.digraph.specs.Completion.{Completed, at}
 
 -- the n states of the card c have the transitions `next`: none of the refusals 4 to 11 applies
@@ -36,5 +37,5 @@ pub record Followed (c w : List ℕ) (n k e : ℕ) (next : ℕ → ℕ → ℕ) 
   pub begun : List ℕ
   pub between : List ℕ
   pub direct : (i : ℕ) → i < k → Holds (getD begun i 0) (Direct c w next i)
-  pub reads : Completed (Edge 0 c w k) k (at begun) (at between)
-  pub includes : Completed (Edge 1 c w k) k (at between) (at z)
+  pub reads : Completed (Edge relation.Reads c w k) k (at begun) (at between)
+  pub includes : Completed (Edge relation.Includes c w k) k (at between) (at z)

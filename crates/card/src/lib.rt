@@ -1,8 +1,10 @@
 // The grammar card: its numbers, each with an answer for every slice, and the first refusal of its form.
 ghost use mathlib.Core.Path.{_≡_};
-ghost use lib.ListN.{getD};
+ghost use Prim.Native.Nat.{_+_, _<_, _^_};
+ghost use lib.Dec.{eqb};
+ghost use lib.ListN.{length, getD};
 ghost use Rattle.sets.specs.Tests.{between as betweenOf};
-ghost use Rattle.grammar.specs.Card.{terminals as terminalsOf, nonterminals as nonterminalsOf, productions as productionsOf, symbols as symbolsOf, leftOf, lengthOf, symbolOf, startOf, isNonterminal, isSymbol, sizesOk, leftsOk, rightsOk, formFault};
+ghost use Rattle.grammar.specs.Card.{terminals as terminalsOf, nonterminals as nonterminalsOf, productions as productionsOf, symbols as symbolsOf, symbolsAt, leftOf, lengthOf, symbolOf, startOf, isNonterminal, isSymbol, sizesOk, leftsOk, rightsOk, formFault};
 
 pub fn wide(x: u16) -> usize
     ensures { λ r. ⌜ r ≡ x ⌝ }
@@ -67,11 +69,18 @@ pub fn length(c: &[u16], r: u16) -> u16
     at(c, 4 + wide(productions(c)) + wide(r))
 }
 
+// Where the symbols of all right sides begin.
+fn symbols_at(c: &[u16]) -> usize
+    ensures { λ i. ⌜ (i ≡ symbolsAt (now (c .entry))) × (i < 2 ^ 18) ⌝ }
+{
+    4 + 2 * wide(productions(c))
+}
+
 // The k-th symbol of all right sides.
 pub fn symbol(c: &[u16], k: u32) -> u16
     ensures { λ v. ⌜ v ≡ symbolOf (now (c .entry)) k ⌝ }
 {
-    at(c, 4 + 2 * wide(productions(c)) + wide32(k))
+    at(c, symbols_at(c) + wide32(k))
 }
 
 // Where the symbols of production r begin, counted from 0.
@@ -100,6 +109,13 @@ fn sizes_ok(c: &[u16]) -> bool
     let n = between(1, 60, nonterminals(c));
     let p = between(1, 128, productions(c));
     t & (n & (p & (symbols(c) <= 512)))
+}
+
+// Whether the card is as long as its sizes say.
+fn length_ok(c: &[u16]) -> bool
+    ensures { λ r. ⌜ r ≡ eqb (length (now (c .entry))) (symbolsAt (now (c .entry)) + symbolsOf (now (c .entry))) ⌝ }
+{
+    c.len() == symbols_at(c) + wide(symbols(c))
 }
 
 pub fn is_nonterminal(c: &[u16], x: u16) -> bool
@@ -154,7 +170,7 @@ pub fn form_fault(c: &[u16]) -> u16
     if !sizes_ok(c) {
         return 5;
     }
-    if c.len() != 4 + 2 * wide(productions(c)) + wide(symbols(c)) {
+    if !length_ok(c) {
         return 6;
     }
     if !lefts_ok(c) {

@@ -4,13 +4,15 @@ use mathlib.Core.Path.{_≡_, refl, sym, ap, _∙_, subst}
 use mathlib.Core.Logic.{_⊎_, inl, inr, ⊎-elim}
 use mathlib.Core.List.{List, [], _∷_, _++_, append-assoc}
 use native.Mathlib.Omega.{arith}
+use native.Mathlib.Nat.{le-refl}
 use native.Mathlib.Numerals.{add-one}
 use lib.ListN.{length, getD, set, take, drop, replicate, length-append, length-drop, length-replicate, length-set, take-append-drop, replicate-append-replicate}
 use lib.Seq.{length-take-le, drop-cons, set-at, getD-take, getD-drop, getD-set-same, getD-set-other, ext-getD}
-use lib.Arith.{digits-lt}
 use Rattle.sets.proofs.HasLaws.{lt-or-ge}
 use Rattle.grammar.specs.Card as card
-use Rattle.tables.specs.Layout.{states, terminals, nonterminals, productions, width, leftOf, lengthOf, rowOf, cellOf, sizeOf, build}
+use Rattle.tables.specs.Layout.{states, terminals, nonterminals, productions, width, leftAt, lengthAt, headerSize, leftOf, lengthOf, cellOf, sizeOf, build}
+use Rattle.areas.specs.Areas.{tableSize, rowOf}
+use Rattle.areas.proofs.RowLaws.{row-table, row-header, row-mono}
 use Rattle.tables.proofs.LayoutLaws.{one-list, built-sizes, built-left, built-length, built-cell, built-long}
 use Rattle.cells.specs.Actions.{IsCell}
 use Rattle.sets.specs.Lists.{covered}
@@ -90,22 +92,22 @@ module _ (c : List ℕ) (t : List ℕ) where
   pub arrays-none : Arrays c 0 t t
   arrays-none = record { long = refl; lefts = λ r h. absurd (omega arith); lengths = λ r h. absurd (omega arith); before = λ i h. refl; behind = λ i h. refl }
 
-  pub arrays-more : (r i j x y : ℕ) (t′ : List ℕ) → r < card.productions c → 4 + 2 * card.productions c ≤ length t → i ≡ 4 + r → j ≡ 4 + card.productions c + r → x ≡ card.leftOf c r → y ≡ card.lengthOf c r
+  pub arrays-more : (r i j x y : ℕ) (t′ : List ℕ) → r < card.productions c → headerSize (card.productions c) ≤ length t → i ≡ leftAt r → j ≡ lengthAt (card.productions c) r → x ≡ card.leftOf c r → y ≡ card.lengthOf c r
       → Arrays c r t t′ → Arrays c (r + 1) t (set (set t′ i x) j y)
   arrays-more r i j x y t′ h room ei ej ex ey a = record {
     long = length-set (set t′ i x) j y ∙ length-set t′ i x ∙ a .long;
     lefts = λ k g. ⊎-elim
-        (λ (l : k < r). other (4 + k) (omega arith) (omega arith) ∙ a .lefts k l)
+        (λ (l : k < r). other (leftAt k) (omega arith) (omega arith) ∙ a .lefts k l)
         (λ (l : r ≤ k).
         let e : k ≡ r = omega arith in
-        let f : 4 + k ≡ i = omega arith in
+        let f : leftAt k ≡ i = omega arith in
         rw f (getD-set-other (set t′ i x) j i y 0 (λ e. omega arith) ∙ getD-set-same t′ i x 0 (omega (arith, a .long)) ∙ ex ∙ ap (card.leftOf c) (sym e)))
         (lt-or-ge k r);
     lengths = λ k g. ⊎-elim
-        (λ (l : k < r). other (4 + card.productions c + k) (omega arith) (omega arith) ∙ a .lengths k l)
+        (λ (l : k < r). other (lengthAt (card.productions c) k) (omega arith) (omega arith) ∙ a .lengths k l)
         (λ (l : r ≤ k).
         let e : k ≡ r = omega arith in
-        let f : 4 + card.productions c + k ≡ j = omega arith in
+        let f : lengthAt (card.productions c) k ≡ j = omega arith in
         rw f (getD-set-same (set t′ i x) j y 0 (rw (length-set t′ i x) (omega (arith, a .long))) ∙ ey ∙ ap (card.lengthOf c) (sym e)))
         (lt-or-ge k r);
     before = λ k g. other k (omega arith) (omega arith) ∙ a .before k g;
@@ -118,7 +120,7 @@ module _ (c : List ℕ) (t : List ℕ) where
   pub arrays-end : (r p : ℕ) (t′ : List ℕ) → r ≡ p → Arrays c r t t′ → Arrays c p t t′
   arrays-end r p t′ e a = subst (λ (x : ℕ). Arrays c x t t′) e a
 
-  pub headed : (n x y p : ℕ) (t′ : List ℕ) → x ≡ card.terminals c → y ≡ card.nonterminals c → p ≡ card.productions c → 4 + 2 * card.productions c ≤ length t
+  pub headed : (n x y p : ℕ) (t′ : List ℕ) → x ≡ card.terminals c → y ≡ card.nonterminals c → p ≡ card.productions c → headerSize (card.productions c) ≤ length t
       → Arrays c (card.productions c) (set (set (set (set t 0 n) 1 x) 2 y) 3 p) t′ → Header c n t t′
   unfolding states terminals nonterminals productions leftOf lengthOf
   headed n x y p t′ ex ey ep room a = record {
@@ -149,6 +151,9 @@ module _ (c : List ℕ) (t : List ℕ) where
 
 -- ---- the table area
 
+pub row-le : (c : List ℕ) (p q : ℕ) → p ≤ q → rowOf c p ≤ rowOf c q
+row-le c p q h = ⊎-elim (λ (l : p < q). let m = row-mono c p q l in omega arith) (λ (l : q ≤ p). let e : p ≡ q = omega arith in rw e (le-refl (rowOf c q))) (lt-or-ge p q)
+
 module _ (c : List ℕ) (n : ℕ) (t₁ t₂ : List ℕ) (wide : 0 < card.terminals c) (room : rowOf c n ≤ length t₁) (h : Header c n t₁ t₂) where
   -- what stands in front, by the places of the cells
   abbrev cellAt : ℕ → ℕ → ℕ
@@ -163,41 +168,44 @@ module _ (c : List ℕ) (n : ℕ) (t₁ t₂ : List ℕ) (wide : 0 < card.termin
   at-front : (i : ℕ) → i < rowOf c n → getD front i 0 ≡ getD t₂ i 0
   at-front i g = getD-take (rowOf c n) t₂ i 0 g
 
+  in-header : (i : ℕ) → i < headerSize (card.productions c) → getD front i 0 ≡ getD t₂ i 0
+  in-header i g = at-front i (omega (arith, row-header c n))
+
   front-states : states front ≡ n
-  unfolding rowOf states
-  front-states = at-front 0 (omega arith) ∙ h .count
+  unfolding states
+  front-states = in-header 0 (omega arith) ∙ h .count
 
   front-terminals : terminals front ≡ card.terminals c
-  unfolding rowOf terminals
-  front-terminals = at-front 1 (omega arith) ∙ h .sizes .0
+  unfolding terminals
+  front-terminals = in-header 1 (omega arith) ∙ h .sizes .0
 
   front-nonterminals : nonterminals front ≡ card.nonterminals c
-  unfolding rowOf nonterminals
-  front-nonterminals = at-front 2 (omega arith) ∙ h .sizes .1
+  unfolding nonterminals
+  front-nonterminals = in-header 2 (omega arith) ∙ h .sizes .1
 
   front-productions : productions front ≡ card.productions c
-  unfolding rowOf productions
-  front-productions = at-front 3 (omega arith) ∙ h .sizes .2
+  unfolding productions
+  front-productions = in-header 3 (omega arith) ∙ h .sizes .2
 
   front-width : width front ≡ card.terminals c + card.nonterminals c
   unfolding width
   front-width = rw (front-terminals, front-nonterminals)
 
   front-long : length front ≡ sizeOf front
-  unfolding rowOf sizeOf
-  front-long = length-take-le (rowOf c n) t₂ (omega (arith, h .long)) ∙ rw (front-states, front-width, front-productions)
+  unfolding sizeOf
+  front-long = length-take-le (rowOf c n) t₂ (omega (arith, h .long)) ∙ rw (front-states, front-width, front-productions) (row-table c n)
 
   front-left : (r : ℕ) → r < productions front → leftOf front r ≡ leftOf whole r
-  unfolding rowOf leftOf
+  unfolding leftOf
   front-left r g =
       let g′ : r < card.productions c = rw front-productions at g in
-      at-front (4 + r) (omega arith) ∙ h .lefts r g′ ∙ sym (built-left n (card.terminals c) (card.nonterminals c) (card.productions c) (card.leftOf c) (card.lengthOf c) cellAt r g′)
+      in-header (leftAt r) (omega arith) ∙ h .lefts r g′ ∙ sym (built-left n (card.terminals c) (card.nonterminals c) (card.productions c) (card.leftOf c) (card.lengthOf c) cellAt r g′)
 
   length-front : (r : ℕ) → r < card.productions c → lengthOf front r ≡ lengthOf t₂ r
-  unfolding rowOf lengthOf
+  unfolding lengthOf
   length-front r g =
       let e : productions t₂ ≡ card.productions c = h .sizes .2 in
-      rw (front-productions, e) (at-front (4 + card.productions c + r) (omega arith))
+      rw (front-productions, e) (in-header (lengthAt (card.productions c) r) (omega arith))
 
   front-length : (r : ℕ) → r < productions front → lengthOf front r ≡ lengthOf whole r
   front-length r g =
@@ -205,12 +213,11 @@ module _ (c : List ℕ) (n : ℕ) (t₁ t₂ : List ℕ) (wide : 0 < card.termin
       length-front r g′ ∙ h .lengths r g′ ∙ sym (built-length n (card.terminals c) (card.nonterminals c) (card.productions c) (card.leftOf c) (card.lengthOf c) cellAt r g′)
 
   front-cell : (q x : ℕ) → q < states front → x < width front → cellOf front q x ≡ cellOf whole q x
-  unfolding rowOf cellOf
+  unfolding cellOf
   front-cell q x g k =
       let g′ : q < n = rw front-states at g in
       let k′ : x < card.terminals c + card.nonterminals c = rw front-width at k in
-      let b : q * (card.terminals c + card.nonterminals c) + x < n * (card.terminals c + card.nonterminals c) = digits-lt g′ k′ in
-      rw (front-productions, front-width) (at-front (4 + 2 * card.productions c + q * (card.terminals c + card.nonterminals c) + x) (omega arith) ∙ h .behind (4 + 2 * card.productions c + q * (card.terminals c + card.nonterminals c) + x) (omega arith))
+      rw (front-productions, front-width, ← row-table c q) (at-front (rowOf c q + x) (omega (arith, row-mono c q n g′)) ∙ h .behind (rowOf c q + x) (omega (arith, row-header c q)))
       ∙ sym (built-cell n (card.terminals c) (card.nonterminals c) (card.productions c) (card.leftOf c) (card.lengthOf c) cellAt q x g′ k′)
 
   front-whole : front ≡ whole
@@ -220,20 +227,20 @@ module _ (c : List ℕ) (n : ℕ) (t₁ t₂ : List ℕ) (wide : 0 < card.termin
       (front-states ∙ sym (s .0)) (front-terminals ∙ sym (s .1)) (front-nonterminals ∙ sym (s .2)) (front-productions ∙ sym (s .3)) front-left front-length front-cell
 
   -- the header, then zeros behind the rows
-  pub finished : (d : ℕ) (t₃ : List ℕ) → d ≡ rowOf c n → rowOf c n ≤ 32004 → t₃ ≡ covered 32004 (take d t₂) t₂ → t₃ ≡ tableArea c n t₁
-  unfolding rowOf tableArea
+  pub finished : (d : ℕ) (t₃ : List ℕ) → d ≡ rowOf c n → rowOf c n ≤ tableSize → t₃ ≡ covered tableSize (take d t₂) t₂ → t₃ ≡ tableArea c n t₁
+  unfolding tableArea
   finished d t₃ s few e =
-      e ∙ ap (λ (x : ℕ). covered 32004 (take x t₂) t₂) s ∙ ap (λ (l : List ℕ). covered 32004 l t₂) front-whole ∙ covered-same 32004 whole t₁ t₂ (h .long) (λ i g. h .behind i (omega arith))
+      e ∙ ap (λ (x : ℕ). covered tableSize (take x t₂) t₂) s ∙ ap (λ (l : List ℕ). covered tableSize l t₂) front-whole ∙ covered-same tableSize whole t₁ t₂ (h .long) (λ i g. h .behind i (omega (arith, row-header c n)))
 
 -- rows written in an area that was t₀, then header and zeros: the table
-pub tabled : (c : List ℕ) (n : ℕ) (next : ℕ → ℕ → ℕ) (A : ℕ → ℕ → ℕ → Type 0) (t₀ t₁ t₂ : List ℕ) → length t₁ ≡ length t₀ → ((i : ℕ) → 32004 ≤ i → getD t₁ i 0 ≡ getD t₀ i 0)
+pub tabled : (c : List ℕ) (n : ℕ) (next : ℕ → ℕ → ℕ) (A : ℕ → ℕ → ℕ → Type 0) (t₀ t₁ t₂ : List ℕ) → length t₁ ≡ length t₀ → ((i : ℕ) → tableSize ≤ i → getD t₁ i 0 ≡ getD t₀ i 0)
     → ((q m : ℕ) → q < n → m < card.terminals c → IsCell (A q m) (getD t₁ (rowOf c q + m) 0))
     → ((q x : ℕ) → q < n → card.terminals c ≤ x → x < card.terminals c + card.nonterminals c → getD t₁ (rowOf c q + x) 0 ≡ next q x)
     → t₂ ≡ tableArea c n t₁ → Tabled c n next A t₀ t₂
 unfolding tableArea
 tabled c n next A t₀ t₁ t₂ long beyond actions nexts e = record {
   cell = λ q x. getD t₁ (rowOf c q + x) 0;
-  area = e ∙ covered-same 32004 _ t₀ t₁ long beyond;
+  area = e ∙ covered-same tableSize _ t₀ t₁ long beyond;
   actions = actions;
   nexts = nexts;
 }

@@ -6,10 +6,11 @@ ghost use Prim.Native.Nat.{ℕ, _+_, _*_, _<_, _≤_};
 ghost use lib.ListN.{length, take};
 ghost use Rattle.sets.specs.Bit.{bit};
 ghost use Rattle.grammar.specs.Card.{terminals as terminalsOf, productions as productionsOf};
+ghost use Rattle.tables.specs.Layout.{headerSize};
 ghost use Rattle.tables.specs.Conflicts.{Lowest};
 ghost use Rattle.cells.specs.Words.{Numbers, Live, Next, Two, Sought, Put, Row};
 ghost use Rattle.sets.specs.Lists.{covered};
-ghost use Rattle.tables.specs.Layout.{rowOf};
+ghost use Rattle.areas.specs.Areas.{tableSize, rowOf};
 ghost use Rattle.cells.specs.Areas.{tableArea, Arrays, Header};
 
 // The first production from a number on that is in the set `live`, or 128 where there is none.
@@ -114,13 +115,13 @@ pub fn write(t: &mut [u16], b: usize, p: usize, words: &[u64; 128], live: [u64; 
 
 // Copies the left sides and the lengths of the card c into the table area, behind the sizes.
 fn arrays(c: &[u16], t: &mut [u16], p: u16)
-    requires { ⌜ (p ≡ productionsOf (now c)) × (4 + 2 * p ≤ length (now t)) ⌝ }
+    requires { ⌜ (p ≡ productionsOf (now c)) × (headerSize p ≤ length (now t)) ⌝ }
     ensures { λ _. ⌜ Arrays (now (c .entry)) (productionsOf (now (c .entry))) (now (t .entry)) (now (t .exit)) ⌝ }
 {
     let mut r: u16 = 0;
     while r < p {
-        let i = 4 + card::wide(r);
-        let j = 4 + card::wide(p) + card::wide(r);
+        let i = tables::left_at(card::wide(r));
+        let j = tables::length_at(card::wide(p), card::wide(r));
         t[i] = card::left(c, r);
         t[j] = card::length(c, r);
         r += 1;
@@ -129,33 +130,24 @@ fn arrays(c: &[u16], t: &mut [u16], p: u16)
 
 // Writes the header of a table of n states: Q, T, N, P, the left sides and the lengths.
 fn header(c: &[u16], t: &mut [u16], n: u16)
-    requires { ⌜ 4 + 2 * productionsOf (now c) ≤ length (now t) ⌝ }
+    requires { ⌜ headerSize (productionsOf (now c)) ≤ length (now t) ⌝ }
     ensures { λ _. ⌜ Header (now (c .entry)) n (now (t .entry)) (now (t .exit)) ⌝ }
 {
     let p = card::productions(c);
-    t[0] = n;
-    t[1] = card::terminals(c);
-    t[2] = card::nonterminals(c);
-    t[3] = p;
+    t[tables::STATES] = n;
+    t[tables::TERMINALS] = card::terminals(c);
+    t[tables::NONTERMINALS] = card::nonterminals(c);
+    t[tables::PRODUCTIONS] = p;
     arrays(c, t, p);
 }
 
-// Where the row of state q begins, which is the size of a table of q states.
-pub fn row(c: &[u16], q: u16) -> usize
-    requires { ⌜ rowOf (now c) q ≤ 32004 ⌝ }
-    ensures { λ r. ⌜ r ≡ rowOf (now (c .entry)) q ⌝ }
-{
-    let width = card::wide(card::terminals(c)) + card::wide(card::nonterminals(c));
-    4 + 2 * card::wide(card::productions(c)) + card::wide(q) * width
-}
-
-// Makes a table of n rows that stand in the table area: the header in front, zeros behind.
+// Makes a table of n rows that stand in the table area, where the table has them: the header in front, zeros behind.
 pub fn finish(c: &[u16], t: &mut [u16], n: u16)
-    requires { ⌜ (0 < terminalsOf (now c)) × (rowOf (now c) n ≤ 32004) × (32004 ≤ length (now t)) ⌝ }
+    requires { ⌜ (0 < terminalsOf (now c)) × (rowOf (now c) n ≤ tableSize) × (tableSize ≤ length (now t)) ⌝ }
     ensures { λ _. ⌜ now (t .exit) ≡ tableArea (now (c .entry)) n (now (t .entry)) ⌝ }
 {
     header(c, t, n);
-    clear16(t, row(c, n), 32004);
+    clear16(t, areas::row(c, card::wide(n)), areas::TABLE);
 }
 
 // Zeros the places from a to k, of numbers of each width.

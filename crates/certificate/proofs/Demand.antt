@@ -5,11 +5,13 @@ use mathlib.Core.List.{List, _++_}
 use lib.ListN.{length}
 use Rattle.grammar.specs.Card.{grammarOf}
 use Rattle.grammar.proofs.CardLaws.{right-short}
-use Rattle.machine.specs.Checks.{reading}
+use Rattle.machine.specs.ComputedRun.{reading}
 use Rattle.claim.specs.Claim.{Demand3}
 use Rattle.claim.proofs.Means.{Limits}
 use Rattle.claim.proofs.Delivered.{claim}
-use Rattle.lalr.specs.Generator.{made, cardAnswer, answerOf, tableOf, generated}
+use Rattle.lalr.specs.Answer.{made}
+use Rattle.lalr.specs.ComputedAnswer.{cardAnswer, tableOf}
+use Rattle.lalr.specs.ComputedGenerator.{answerOf, generated}
 use Rattle.lalr.proofs.AreaLaws.{made-area}
 use Rattle.lalr.proofs.TableLaws.{Made, made-of, table-is, the-form, the-formed, the-productive}
 use Rattle.lalr.proofs.OrderLaws.{card-made}

@@ -4,6 +4,7 @@ use mathlib.Core.List.{List, [], _∷_, _++_}
 use mathlib.Core.Logic.{_⊎_, inl, inr}
 use Prim.Native.Nat.{ℕ}
 use native.Mathlib.Omega.{arith}
+use lib.Count.{ones, onesIn}
 use Rattle.sets.specs.Bit.{bit}
 use Rattle.sets.specs.Tests.{allBelow, between}
 use Rattle.grammar.specs.Grammar.{Sentence, Rightmost}
@@ -12,19 +13,21 @@ use Rattle.grammar.specs.Card
 use Rattle.grammar.specs.Card.{grammarOf, symbols, symbolOf, startOf, rightOf, isNonterminal, isSymbol, leftsOk, rightsOk, formFault}
 use Rattle.tables.specs.Layout
 use Rattle.tables.specs.Layout.{width, cellOf, sizeOf, build}
-use Rattle.machine.specs.Machine.{popped, topOf, actionOf, shifted, reducedTo, reduced, movedBy, after, run, start, expectedWord, expectedCount, expected, reportOf}
+use Rattle.machine.specs.Report.{ended, wrong-at, Reading}
+use Rattle.machine.specs.ComputedRun.{popped, topOf, actionOf, shifted, reducedTo, reduced, movedBy, after, run, start, expectedWord, wrongAt, reportOf, reading}
 use Rattle.machine.specs.Checks
-use Rattle.machine.specs.Checks.{Reading, productionOk, terminalCellOk, cellOk, rowOk, productionsOk, cellsOk, terminalOk, inputOk, refusalOf, reading}
+use Rattle.machine.specs.Checks.{productionOk, terminalCellOk, cellOk, rowOk, productionsOk, cellsOk, terminalOk, inputOk, refusalOf}
 use Rattle.claim.specs.Claim.{Demand3, Settled}
-use Rattle.lalr.specs.Nonterminals.{nullables, productive, reachable, uselessNonterminal, firsts}
-use Rattle.lalr.specs.Lalr
-use Rattle.lalr.specs.Lalr.{facts, closure, advance, goto}
-use Rattle.lalr.specs.Generator.{made, cardAnswer, tableOf}
+use Rattle.lalr.specs.ComputedNonterminals.{nullables, productive, reachable, uselessNonterminal, firsts}
+use Rattle.lalr.specs.ComputedStates
+use Rattle.lalr.specs.ComputedStates.{facts, closure, advance, goto}
+use Rattle.lalr.specs.Answer.{made}
+use Rattle.lalr.specs.ComputedAnswer.{cardAnswer, tableOf}
 use Rattle.certificate.specs.Rows.{cardA}
 use Rattle.certificate.proofs.Demand.{demand-3}
 
 a-made : cardAnswer cardA ≡ made
-unfolding bit allBelow between Card.terminals Card.nonterminals Card.productions symbols Card.leftOf Card.lengthOf symbolOf startOf rightOf Card.sizesOk isNonterminal isSymbol leftsOk rightsOk formFault nullables productive reachable uselessNonterminal firsts Lalr.states facts closure advance goto Lalr.start
+unfolding bit allBelow between Card.terminals Card.nonterminals Card.productions symbols Card.leftOf Card.lengthOf symbolOf startOf rightOf Card.sizesOk isNonterminal isSymbol leftsOk rightsOk formFault nullables productive reachable uselessNonterminal firsts ComputedStates.states facts closure advance goto ComputedStates.start
 a-made = refl
 
 -- with one place behind the table, stack and list areas of 4 and 2 places, 5 steps
@@ -35,8 +38,8 @@ settled : {n : ℕ} → (n ≡ 0) ⊎ (n ≡ 31) → Settled n
 settled (inl e) = record { taken = λ h k. omega arith; steps-left = λ z. omega arith; stack-left = λ z. omega arith; list-left = λ z. omega arith }
 settled (inr e) = record { taken = λ h k. omega arith; steps-left = λ z. omega arith; stack-left = λ z. omega arith; list-left = λ z. omega arith }
 
-good-claim : Demand3 (grammarOf cardA) (2 ∷ 1 ∷ []) (record { report = 0 ∷ 5 ∷ 2 ∷ 2 ∷ []; stack = 0 ∷ 2 ∷ 0 ∷ 9 ∷ []; list = 1 ∷ 0 ∷ [] })
-unfolding bit allBelow between Card.terminals Card.nonterminals Card.productions symbols Card.leftOf Card.lengthOf symbolOf startOf rightOf nullables productive reachable uselessNonterminal firsts Lalr.states facts closure advance goto Lalr.start tableOf build Layout.states Layout.terminals Layout.nonterminals Layout.productions width Layout.leftOf Layout.lengthOf cellOf sizeOf popped topOf actionOf shifted reducedTo reduced movedBy after run start expectedWord expectedCount expected reportOf Checks.sizesOk productionOk terminalCellOk cellOk rowOk productionsOk cellsOk terminalOk inputOk refusalOf reading
+good-claim : Demand3 (grammarOf cardA) (2 ∷ 1 ∷ []) (record { report = ended 0 5 2 2; stack = 0 ∷ 2 ∷ 0 ∷ 9 ∷ []; list = 1 ∷ 0 ∷ [] })
+unfolding bit allBelow between Card.terminals Card.nonterminals Card.productions symbols Card.leftOf Card.lengthOf symbolOf startOf rightOf nullables productive reachable uselessNonterminal firsts ComputedStates.states facts closure advance goto ComputedStates.start tableOf build Layout.states Layout.terminals Layout.nonterminals Layout.productions width Layout.leftOf Layout.lengthOf cellOf sizeOf popped topOf actionOf shifted reducedTo reduced movedBy after run start ones onesIn expectedWord wrongAt reportOf Checks.sizesOk productionOk terminalCellOk cellOk rowOk productionsOk cellsOk terminalOk inputOk refusalOf reading
 good-claim = demand-3 cardA a-made (0 ∷ []) (2 ∷ 1 ∷ []) (9 ∷ 9 ∷ 9 ∷ 9 ∷ []) (9 ∷ 9 ∷ []) 5
 
 -- 2 1 is a sentence, and its one rightmost derivation is by the productions 0 1
@@ -47,8 +50,8 @@ pub good-derivation : Rightmost (grammarOf cardA) (3 ∷ []) (0 ∷ 1 ∷ []) (2
 unfolding Card.terminals
 good-derivation = good-claim .derivation refl
 
-bad-claim : Demand3 (grammarOf cardA) (2 ∷ 2 ∷ []) (record { report = 31 ∷ 1 ∷ 2 ∷ 0 ∷ 1 ∷ 3 ∷ 2 ∷ []; stack = 0 ∷ 1 ∷ 9 ∷ 9 ∷ []; list = 9 ∷ 9 ∷ [] })
-unfolding bit allBelow between Card.terminals Card.nonterminals Card.productions symbols Card.leftOf Card.lengthOf symbolOf startOf rightOf nullables productive reachable uselessNonterminal firsts Lalr.states facts closure advance goto Lalr.start tableOf build Layout.states Layout.terminals Layout.nonterminals Layout.productions width Layout.leftOf Layout.lengthOf cellOf sizeOf popped topOf actionOf shifted reducedTo reduced movedBy after run start expectedWord expectedCount expected reportOf Checks.sizesOk productionOk terminalCellOk cellOk rowOk productionsOk cellsOk terminalOk inputOk refusalOf reading
+bad-claim : Demand3 (grammarOf cardA) (2 ∷ 2 ∷ []) (record { report = wrong-at 1 2 0 1 3 2; stack = 0 ∷ 1 ∷ 9 ∷ 9 ∷ []; list = 9 ∷ 9 ∷ [] })
+unfolding bit allBelow between Card.terminals Card.nonterminals Card.productions symbols Card.leftOf Card.lengthOf symbolOf startOf rightOf nullables productive reachable uselessNonterminal firsts ComputedStates.states facts closure advance goto ComputedStates.start tableOf build Layout.states Layout.terminals Layout.nonterminals Layout.productions width Layout.leftOf Layout.lengthOf cellOf sizeOf popped topOf actionOf shifted reducedTo reduced movedBy after run start ones onesIn expectedWord wrongAt reportOf Checks.sizesOk productionOk terminalCellOk cellOk rowOk productionsOk cellsOk terminalOk inputOk refusalOf reading
 bad-claim = demand-3 cardA a-made (0 ∷ []) (2 ∷ 2 ∷ []) (9 ∷ 9 ∷ 9 ∷ 9 ∷ []) (9 ∷ 9 ∷ []) 5
 
 -- 2 2 goes wrong at its second terminal

@@ -1,42 +1,24 @@
--- The starred cards and lines follow from the definitions, by computing.
+-- The rows of the starred cards and lines follow from the definitions, by computing.
 use mathlib.Core.Path.{_≡_, refl}
-use mathlib.Core.List.{List, [], _∷_, map}
-use Prim.Native.Nat.{ℕ}
-use lib.ListN.{replicate}
+use mathlib.Core.List.{map}
+use lib.Count.{ones, onesIn}
 use Rattle.sets.specs.Bit.{bit}
+use Rattle.sets.specs.Lists.{covered}
 use Rattle.sets.specs.Tests.{allBelow, between}
 use Rattle.grammar.specs.Card
 use Rattle.grammar.specs.Card.{symbols, symbolOf, startOf, rightOf, isNonterminal, isSymbol, leftsOk, rightsOk, formFault}
 use Rattle.tables.specs.Layout
 use Rattle.tables.specs.Layout.{width, cellOf, sizeOf, build}
-use Rattle.machine.specs.Machine.{popped, topOf, actionOf, shifted, reducedTo, reduced, movedBy, after, run, start, expectedWord, expectedCount, expected, reportOf}
+use Rattle.machine.specs.ComputedRun.{popped, topOf, actionOf, shifted, reducedTo, reduced, movedBy, after, run, start, expectedWord, wrongAt, reportOf, reading}
 use Rattle.machine.specs.Checks
-use Rattle.machine.specs.Checks.{Reading, productionOk, terminalCellOk, cellOk, rowOk, productionsOk, cellsOk, terminalOk, inputOk, refusalOf, reading}
-use Rattle.lalr.specs.Nonterminals.{nullables, productive, reachable, uselessNonterminal, firsts}
-use Rattle.lalr.specs.Lalr
-use Rattle.lalr.specs.Lalr.{facts, closure, advance, goto}
-use Rattle.lalr.specs.Generator.{Answer, made, refused, uselessAt, conflict, numbersOf, answerOf, tableOf}
-use Rattle.certificate.specs.Rows.{CardRow, cardRows, InputRow, inputRows}
+use Rattle.machine.specs.Checks.{productionOk, terminalCellOk, cellOk, rowOk, productionsOk, cellsOk, terminalOk, inputOk, refusalOf}
+use Rattle.lalr.specs.ComputedNonterminals.{nullables, productive, reachable, uselessNonterminal, firsts}
+use Rattle.lalr.specs.ComputedStates
+use Rattle.lalr.specs.ComputedStates.{facts, closure, advance, goto}
+use Rattle.lalr.specs.ComputedAnswer.{tableOf}
+use Rattle.lalr.specs.ComputedGenerator.{answerOf, generated}
+use Rattle.certificate.specs.Rows.{Row, rows, stated, computed}
 
--- the table where one is made
-abbrev tableIf : Answer → List ℕ → List ℕ
-tableIf made t = t
-tableIf (refused n) t = []
-tableIf (uselessAt n) t = []
-tableIf (conflict q m v w) t = []
-
-abbrev cardRow : List ℕ → CardRow
-cardRow c = record { card = c; numbers = numbersOf (answerOf 32004 8192 16384 c); table = tableIf (answerOf 32004 8192 16384 c) (tableOf c) }
-
-pub starred-cards : map (λ (r : CardRow). cardRow (r .card)) cardRows ≡ cardRows
-unfolding bit allBelow between Card.terminals Card.nonterminals Card.productions symbols Card.leftOf Card.lengthOf symbolOf startOf rightOf Card.sizesOk isNonterminal isSymbol leftsOk rightsOk formFault nullables productive reachable uselessNonterminal firsts Lalr.states facts closure advance goto Lalr.start answerOf tableOf build
-starred-cards = refl
-
-abbrev inputRow : InputRow → InputRow
-inputRow r =
-    let d = reading (tableOf (r .card)) (r .input) (replicate (r .stack) 9) (replicate (r .list) 9) (r .limit) in
-    record { card = r .card; input = r .input; stack = r .stack; list = r .list; limit = r .limit; report = d .report; stack-left = d .stack; list-left = d .list }
-
-pub starred-inputs : map inputRow inputRows ≡ inputRows
-unfolding bit allBelow between Card.terminals Card.nonterminals Card.productions symbols Card.leftOf Card.lengthOf symbolOf startOf rightOf nullables productive reachable uselessNonterminal firsts Lalr.states facts closure advance goto Lalr.start tableOf build Layout.states Layout.terminals Layout.nonterminals Layout.productions width Layout.leftOf Layout.lengthOf cellOf sizeOf popped topOf actionOf shifted reducedTo reduced movedBy after run start expectedWord expectedCount expected reportOf Checks.sizesOk productionOk terminalCellOk cellOk rowOk productionsOk cellsOk terminalOk inputOk refusalOf reading
-starred-inputs = refl
+pub starred : map (λ (r : Row). computed (r .card) (r .lines)) rows ≡ map (λ (r : Row). stated (r .answer) (r .lines)) rows
+unfolding bit allBelow between Card.terminals Card.nonterminals Card.productions symbols Card.leftOf Card.lengthOf symbolOf startOf rightOf nullables productive reachable uselessNonterminal firsts ComputedStates.states facts closure advance goto ComputedStates.start tableOf build Layout.states Layout.terminals Layout.nonterminals Layout.productions width Layout.leftOf Layout.lengthOf cellOf sizeOf popped topOf actionOf shifted reducedTo reduced movedBy after run start ones onesIn expectedWord wrongAt reportOf Checks.sizesOk productionOk terminalCellOk cellOk rowOk productionsOk cellsOk terminalOk inputOk refusalOf reading Card.sizesOk isNonterminal isSymbol leftsOk rightsOk formFault answerOf generated covered
+starred = refl

@@ -1,8 +1,13 @@
--- The starred cards and lines of 01, and the grammars of "Misreadings to rule out": what each must give.
-use mathlib.Core.List.{List, [], _∷_}
+-- The starred cards and lines of 01, and the grammars of "Misreadings to rule out", as rows of one table: what each must give.
+use mathlib.Core.List.{List, [], _∷_, _++_, map}
 use Prim.Native.Nat.{ℕ}
-
--- ---- cards
+use lib.ListN.{replicate, take}
+use Rattle.areas.specs.Areas.{tableSize, wordsSize, halvesSize}
+use Rattle.tables.specs.Layout.{sizeOf}
+use Rattle.machine.specs.Report as report
+use Rattle.machine.specs.ComputedRun.{reading}
+use Rattle.lalr.specs.Answer as lalr
+use Rattle.lalr.specs.ComputedGenerator.{generated}
 
 -- Card A: 3 → 3 1, 3 → 2
 abbrev pub cardA : List ℕ
@@ -32,43 +37,138 @@ cardG = 6 ∷ 3 ∷ 6 ∷ 14 ∷ 6 ∷ 6 ∷ 6 ∷ 6 ∷ 7 ∷ 8 ∷ 3 ∷ 3 ∷
 abbrev pub cardH : List ℕ
 cardH = 6 ∷ 3 ∷ 6 ∷ 14 ∷ 6 ∷ 6 ∷ 6 ∷ 6 ∷ 7 ∷ 8 ∷ 3 ∷ 3 ∷ 3 ∷ 3 ∷ 1 ∷ 1 ∷ 1 ∷ 7 ∷ 4 ∷ 2 ∷ 8 ∷ 4 ∷ 1 ∷ 8 ∷ 5 ∷ 2 ∷ 7 ∷ 5 ∷ 3 ∷ 3 ∷ []
 
--- the numbers of the answer (0 for a table), and the table where there is one
-pub record CardRow : Type 0 where
-  pub card : List ℕ
-  pub numbers : List ℕ
-  pub table : List ℕ
+-- what the maker answers: a table, as it is printed (sizes, left sides, lengths, rows), or the numbers of a refusal
+pub data Answer : Type 0 where
+  table : (sizes left length : List ℕ) → (rows : List (List ℕ)) → Answer
+  refused : List ℕ → Answer
 
-abbrev pub cardRows : List CardRow
-cardRows =
-    record { card = cardA; numbers = 0 ∷ []; table = 4 ∷ 3 ∷ 1 ∷ 2 ∷ 3 ∷ 3 ∷ 2 ∷ 1 ∷ 0 ∷ 0 ∷ 1 ∷ 2 ∷ 1025 ∷ 1025 ∷ 0 ∷ 0 ∷ 4096 ∷ 3 ∷ 0 ∷ 0 ∷ 1024 ∷ 1024 ∷ 0 ∷ 0 ∷ [] } ∷
-    record { card = cardE; numbers = 0 ∷ []; table = 2 ∷ 1 ∷ 1 ∷ 1 ∷ 1 ∷ 0 ∷ 1024 ∷ 1 ∷ 4096 ∷ 0 ∷ [] } ∷
-    record { card = cardC; numbers = 13 ∷ 3 ∷ 1 ∷ 1 ∷ 1024 ∷ []; table = [] } ∷
-    record { card = cardD; numbers = 13 ∷ 2 ∷ 0 ∷ 1024 ∷ 4096 ∷ []; table = [] } ∷
-    record { card = cardF; numbers = 0 ∷ []; table = 10 ∷ 4 ∷ 3 ∷ 5 ∷ 4 ∷ 4 ∷ 5 ∷ 5 ∷ 6 ∷ 3 ∷ 1 ∷ 2 ∷ 1 ∷ 1 ∷ 0 ∷ 0 ∷ 1 ∷ 2 ∷ 3 ∷ 4 ∷ 5 ∷ 0 ∷ 0 ∷ 1 ∷ 2 ∷ 0 ∷ 6 ∷ 7 ∷ 1027 ∷ 1027 ∷ 0 ∷ 0 ∷ 0 ∷ 0 ∷ 0 ∷ 4096 ∷ 0 ∷ 0 ∷ 0 ∷ 0 ∷ 0 ∷ 0 ∷ 1028 ∷ 8 ∷ 0 ∷ 0 ∷ 0 ∷ 0 ∷ 0 ∷ 1025 ∷ 0 ∷ 0 ∷ 0 ∷ 0 ∷ 0 ∷ 0 ∷ 1028 ∷ 1028 ∷ 0 ∷ 0 ∷ 0 ∷ 0 ∷ 0 ∷ 1026 ∷ 1026 ∷ 0 ∷ 0 ∷ 0 ∷ 0 ∷ 0 ∷ 0 ∷ 0 ∷ 1 ∷ 2 ∷ 0 ∷ 6 ∷ 9 ∷ 1024 ∷ 0 ∷ 0 ∷ 0 ∷ 0 ∷ 0 ∷ 0 ∷ [] } ∷
-    record { card = cardG; numbers = 0 ∷ []; table = 13 ∷ 6 ∷ 3 ∷ 6 ∷ 6 ∷ 6 ∷ 6 ∷ 6 ∷ 7 ∷ 8 ∷ 3 ∷ 3 ∷ 3 ∷ 3 ∷ 1 ∷ 1 ∷ 0 ∷ 1 ∷ 2 ∷ 0 ∷ 0 ∷ 0 ∷ 3 ∷ 0 ∷ 0 ∷ 0 ∷ 0 ∷ 0 ∷ 0 ∷ 0 ∷ 4 ∷ 0 ∷ 5 ∷ 6 ∷ 0 ∷ 0 ∷ 0 ∷ 0 ∷ 0 ∷ 7 ∷ 0 ∷ 8 ∷ 6 ∷ 4096 ∷ 0 ∷ 0 ∷ 0 ∷ 0 ∷ 0 ∷ 0 ∷ 0 ∷ 0 ∷ 0 ∷ 0 ∷ 0 ∷ 1029 ∷ 9 ∷ 0 ∷ 0 ∷ 0 ∷ 0 ∷ 0 ∷ 0 ∷ 0 ∷ 10 ∷ 0 ∷ 0 ∷ 0 ∷ 0 ∷ 0 ∷ 0 ∷ 0 ∷ 0 ∷ 1028 ∷ 1028 ∷ 0 ∷ 0 ∷ 0 ∷ 0 ∷ 0 ∷ 0 ∷ 0 ∷ 11 ∷ 1029 ∷ 0 ∷ 0 ∷ 0 ∷ 0 ∷ 0 ∷ 0 ∷ 0 ∷ 0 ∷ 12 ∷ 0 ∷ 0 ∷ 0 ∷ 0 ∷ 1024 ∷ 0 ∷ 0 ∷ 0 ∷ 0 ∷ 0 ∷ 0 ∷ 0 ∷ 0 ∷ 1025 ∷ 0 ∷ 0 ∷ 0 ∷ 0 ∷ 0 ∷ 0 ∷ 0 ∷ 0 ∷ 1027 ∷ 0 ∷ 0 ∷ 0 ∷ 0 ∷ 0 ∷ 0 ∷ 0 ∷ 0 ∷ 1026 ∷ 0 ∷ 0 ∷ 0 ∷ 0 ∷ 0 ∷ 0 ∷ 0 ∷ 0 ∷ [] } ∷
-    record { card = cardH; numbers = 13 ∷ 4 ∷ 4 ∷ 1028 ∷ 1029 ∷ []; table = [] } ∷
-    []
-
--- ---- inputs, read with the table of a card; never-used places hold 9
-
-pub record InputRow : Type 0 where
-  pub card : List ℕ
+-- a line read with the card's table: the input, stack and list areas of so many places, each of which holds 9, and the step limit; then the numbers of
+-- the answer (number, steps, stack places in use, productions listed; for 31 the position, the expected set and its size) and both areas
+pub record Line : Type 0 where
   pub input : List ℕ
   pub stack : ℕ
   pub list : ℕ
   pub limit : ℕ
-  -- number, steps, stack places in use, productions listed; for 31 the position, the expected set and its size
-  pub report : List ℕ
+  pub numbers : List ℕ
   pub stack-left : List ℕ
   pub list-left : List ℕ
 
-abbrev pub inputRows : List InputRow
-inputRows =
-    record { card = cardA; input = 2 ∷ 1 ∷ []; stack = 4; list = 2; limit = 5; report = 0 ∷ 5 ∷ 2 ∷ 2 ∷ []; stack-left = 0 ∷ 2 ∷ 0 ∷ 9 ∷ []; list-left = 1 ∷ 0 ∷ [] } ∷
-    record { card = cardA; input = 2 ∷ 1 ∷ []; stack = 4; list = 2; limit = 4; report = 32 ∷ 4 ∷ 2 ∷ 2 ∷ []; stack-left = 0 ∷ 2 ∷ 0 ∷ 9 ∷ []; list-left = 1 ∷ 0 ∷ [] } ∷
-    record { card = cardA; input = 2 ∷ 1 ∷ []; stack = 2; list = 2; limit = 100; report = 33 ∷ 2 ∷ 2 ∷ 1 ∷ []; stack-left = 0 ∷ 2 ∷ []; list-left = 1 ∷ 9 ∷ [] } ∷
-    record { card = cardA; input = 2 ∷ 1 ∷ []; stack = 4; list = 1; limit = 100; report = 34 ∷ 3 ∷ 3 ∷ 1 ∷ []; stack-left = 0 ∷ 2 ∷ 3 ∷ 9 ∷ []; list-left = 1 ∷ [] } ∷
-    record { card = cardA; input = []; stack = 4; list = 0; limit = 100; report = 31 ∷ 0 ∷ 1 ∷ 0 ∷ 0 ∷ 4 ∷ 1 ∷ []; stack-left = 0 ∷ 9 ∷ 9 ∷ 9 ∷ []; list-left = [] } ∷
-    record { card = cardA; input = 2 ∷ 2 ∷ []; stack = 4; list = 1; limit = 100; report = 31 ∷ 1 ∷ 2 ∷ 0 ∷ 1 ∷ 3 ∷ 2 ∷ []; stack-left = 0 ∷ 1 ∷ 9 ∷ 9 ∷ []; list-left = 9 ∷ [] } ∷
-    record { card = cardE; input = []; stack = 4; list = 1; limit = 100; report = 0 ∷ 2 ∷ 2 ∷ 1 ∷ []; stack-left = 0 ∷ 1 ∷ 9 ∷ 9 ∷ []; list-left = 0 ∷ [] } ∷
+pub record Row : Type 0 where
+  pub card : List ℕ
+  pub answer : Answer
+  pub lines : List Line
+
+abbrev pub rows : List Row
+rows =
+    record {
+      card = cardA;
+      answer = table (4 ∷ 3 ∷ 1 ∷ 2 ∷ []) (3 ∷ 3 ∷ []) (2 ∷ 1 ∷ []) (
+          (0 ∷ 0 ∷ 1 ∷ 2 ∷ []) ∷
+          (1025 ∷ 1025 ∷ 0 ∷ 0 ∷ []) ∷
+          (4096 ∷ 3 ∷ 0 ∷ 0 ∷ []) ∷
+          (1024 ∷ 1024 ∷ 0 ∷ 0 ∷ []) ∷
+          []);
+      lines =
+          record { input = 2 ∷ 1 ∷ []; stack = 4; list = 2; limit = 5; numbers = 0 ∷ 5 ∷ 2 ∷ 2 ∷ []; stack-left = 0 ∷ 2 ∷ 0 ∷ 9 ∷ []; list-left = 1 ∷ 0 ∷ [] } ∷
+          record { input = 2 ∷ 1 ∷ []; stack = 4; list = 2; limit = 4; numbers = 32 ∷ 4 ∷ 2 ∷ 2 ∷ []; stack-left = 0 ∷ 2 ∷ 0 ∷ 9 ∷ []; list-left = 1 ∷ 0 ∷ [] } ∷
+          record { input = 2 ∷ 1 ∷ []; stack = 2; list = 2; limit = 100; numbers = 33 ∷ 2 ∷ 2 ∷ 1 ∷ []; stack-left = 0 ∷ 2 ∷ []; list-left = 1 ∷ 9 ∷ [] } ∷
+          record { input = 2 ∷ 1 ∷ []; stack = 4; list = 1; limit = 100; numbers = 34 ∷ 3 ∷ 3 ∷ 1 ∷ []; stack-left = 0 ∷ 2 ∷ 3 ∷ 9 ∷ []; list-left = 1 ∷ [] } ∷
+          record { input = []; stack = 4; list = 0; limit = 100; numbers = 31 ∷ 0 ∷ 1 ∷ 0 ∷ 0 ∷ 4 ∷ 1 ∷ []; stack-left = 0 ∷ 9 ∷ 9 ∷ 9 ∷ []; list-left = [] } ∷
+          record { input = 2 ∷ 2 ∷ []; stack = 4; list = 1; limit = 100; numbers = 31 ∷ 1 ∷ 2 ∷ 0 ∷ 1 ∷ 3 ∷ 2 ∷ []; stack-left = 0 ∷ 1 ∷ 9 ∷ 9 ∷ []; list-left = 9 ∷ [] } ∷
+          [];
+    } ∷
+    record {
+      card = cardE;
+      answer = table (2 ∷ 1 ∷ 1 ∷ 1 ∷ []) (1 ∷ []) (0 ∷ []) (
+          (1024 ∷ 1 ∷ []) ∷
+          (4096 ∷ 0 ∷ []) ∷
+          []);
+      lines =
+          record { input = []; stack = 4; list = 1; limit = 100; numbers = 0 ∷ 2 ∷ 2 ∷ 1 ∷ []; stack-left = 0 ∷ 1 ∷ 9 ∷ 9 ∷ []; list-left = 0 ∷ [] } ∷
+          [];
+    } ∷
+    record {
+      card = cardC;
+      answer = refused (13 ∷ 3 ∷ 1 ∷ 1 ∷ 1024 ∷ []);
+      lines = [];
+    } ∷
+    record {
+      card = cardD;
+      answer = refused (13 ∷ 2 ∷ 0 ∷ 1024 ∷ 4096 ∷ []);
+      lines = [];
+    } ∷
+    record {
+      card = cardF;
+      answer = table (10 ∷ 4 ∷ 3 ∷ 5 ∷ []) (4 ∷ 4 ∷ 5 ∷ 5 ∷ 6 ∷ []) (3 ∷ 1 ∷ 2 ∷ 1 ∷ 1 ∷ []) (
+          (0 ∷ 0 ∷ 1 ∷ 2 ∷ 3 ∷ 4 ∷ 5 ∷ []) ∷
+          (0 ∷ 0 ∷ 1 ∷ 2 ∷ 0 ∷ 6 ∷ 7 ∷ []) ∷
+          (1027 ∷ 1027 ∷ 0 ∷ 0 ∷ 0 ∷ 0 ∷ 0 ∷ []) ∷
+          (4096 ∷ 0 ∷ 0 ∷ 0 ∷ 0 ∷ 0 ∷ 0 ∷ []) ∷
+          (1028 ∷ 8 ∷ 0 ∷ 0 ∷ 0 ∷ 0 ∷ 0 ∷ []) ∷
+          (1025 ∷ 0 ∷ 0 ∷ 0 ∷ 0 ∷ 0 ∷ 0 ∷ []) ∷
+          (1028 ∷ 1028 ∷ 0 ∷ 0 ∷ 0 ∷ 0 ∷ 0 ∷ []) ∷
+          (1026 ∷ 1026 ∷ 0 ∷ 0 ∷ 0 ∷ 0 ∷ 0 ∷ []) ∷
+          (0 ∷ 0 ∷ 1 ∷ 2 ∷ 0 ∷ 6 ∷ 9 ∷ []) ∷
+          (1024 ∷ 0 ∷ 0 ∷ 0 ∷ 0 ∷ 0 ∷ 0 ∷ []) ∷
+          []);
+      lines = [];
+    } ∷
+    record {
+      card = cardG;
+      answer = table (13 ∷ 6 ∷ 3 ∷ 6 ∷ []) (6 ∷ 6 ∷ 6 ∷ 6 ∷ 7 ∷ 8 ∷ []) (3 ∷ 3 ∷ 3 ∷ 3 ∷ 1 ∷ 1 ∷ []) (
+          (0 ∷ 1 ∷ 2 ∷ 0 ∷ 0 ∷ 0 ∷ 3 ∷ 0 ∷ 0 ∷ []) ∷
+          (0 ∷ 0 ∷ 0 ∷ 0 ∷ 0 ∷ 4 ∷ 0 ∷ 5 ∷ 6 ∷ []) ∷
+          (0 ∷ 0 ∷ 0 ∷ 0 ∷ 0 ∷ 7 ∷ 0 ∷ 8 ∷ 6 ∷ []) ∷
+          (4096 ∷ 0 ∷ 0 ∷ 0 ∷ 0 ∷ 0 ∷ 0 ∷ 0 ∷ 0 ∷ []) ∷
+          (0 ∷ 0 ∷ 0 ∷ 1029 ∷ 9 ∷ 0 ∷ 0 ∷ 0 ∷ 0 ∷ []) ∷
+          (0 ∷ 0 ∷ 0 ∷ 10 ∷ 0 ∷ 0 ∷ 0 ∷ 0 ∷ 0 ∷ []) ∷
+          (0 ∷ 0 ∷ 0 ∷ 1028 ∷ 1028 ∷ 0 ∷ 0 ∷ 0 ∷ 0 ∷ []) ∷
+          (0 ∷ 0 ∷ 0 ∷ 11 ∷ 1029 ∷ 0 ∷ 0 ∷ 0 ∷ 0 ∷ []) ∷
+          (0 ∷ 0 ∷ 0 ∷ 0 ∷ 12 ∷ 0 ∷ 0 ∷ 0 ∷ 0 ∷ []) ∷
+          (1024 ∷ 0 ∷ 0 ∷ 0 ∷ 0 ∷ 0 ∷ 0 ∷ 0 ∷ 0 ∷ []) ∷
+          (1025 ∷ 0 ∷ 0 ∷ 0 ∷ 0 ∷ 0 ∷ 0 ∷ 0 ∷ 0 ∷ []) ∷
+          (1027 ∷ 0 ∷ 0 ∷ 0 ∷ 0 ∷ 0 ∷ 0 ∷ 0 ∷ 0 ∷ []) ∷
+          (1026 ∷ 0 ∷ 0 ∷ 0 ∷ 0 ∷ 0 ∷ 0 ∷ 0 ∷ 0 ∷ []) ∷
+          []);
+      lines = [];
+    } ∷
+    record {
+      card = cardH;
+      answer = refused (13 ∷ 4 ∷ 4 ∷ 1028 ∷ 1029 ∷ []);
+      lines = [];
+    } ∷
     []
+
+-- ---- what a row states, and what the definitions give
+
+-- the numbers of the answer, 0 for a table; the table as one list, none for a refusal; the lines
+pub record Result : Type 0 where
+  pub numbers : List ℕ
+  pub table : List ℕ
+  pub lines : List Line
+
+abbrev pub joined : List (List ℕ) → List ℕ
+joined [] = []
+joined (l ∷ ls) = l ++ joined ls
+
+abbrev pub stated : Answer → List Line → Result
+stated (table sizes left length rows) lines = record { numbers = 0 ∷ []; table = sizes ++ (left ++ (length ++ joined rows)); lines = lines }
+stated (refused numbers) lines = record { numbers = numbers; table = []; lines = lines }
+
+-- the table that stands in front of an area
+abbrev pub inFront : lalr.Answer → List ℕ → List ℕ
+inFront lalr.made t = take (sizeOf t) t
+inFront (lalr.refused n) t = []
+inFront (lalr.uselessAt n) t = []
+inFront (lalr.conflict q m v w) t = []
+
+abbrev pub readLine : List ℕ → Line → Line
+readLine t l =
+    let r = reading t (l .input) (replicate (l .stack) 9) (replicate (l .list) 9) (l .limit) in
+    record { input = l .input; stack = l .stack; list = l .list; limit = l .limit; numbers = report.numbersOf (r .report); stack-left = r .stack; list-left = r .list }
+
+-- with areas of just the lengths that the maker asks for; lines are read with the table area as the maker left it
+abbrev pub computed : List ℕ → List Line → Result
+computed c lines =
+    let out = generated (replicate tableSize 9) (replicate wordsSize 9) (replicate halvesSize 9) c in
+    record { numbers = lalr.numbersOf (out .answer); table = inFront (out .answer) (out .table); lines = map (readLine (out .table)) lines }

@@ -7,20 +7,21 @@ use lib.ListN.{length, drop, take, take-append-drop}
 use native.Mathlib.Omega.{arith}
 use Rattle.grammar.specs.Grammar.{Grammar, Formed, Symbols, Sentence, Rightmost}
 use Rattle.lr.proofs.Runs
+use Rattle.lr.proofs.Canonical.{start-viable}
 use Rattle.lr.specs.Items
 use Rattle.lr.proofs.ItemLaws.{AllProductive}
 use Rattle.lr.proofs.MachineLaws.{accepted, refused}
 use Rattle.lr.proofs.ErrorPosition.{Begins, ErrorPosition, at-terminal, at-end, place-of, begins-front}
-use Rattle.machine.specs.Machine.{Outcome, start}
-use Rattle.machine.specs.Checks.{Reading, reading, refusalOf}
+use Rattle.machine.specs.Checks.{refusalOf}
+use Rattle.machine.specs.ComputedRun.{reading}
 pub use Rattle.claim.specs.Claim.{Settled, Demand3}
-use Rattle.machine.proofs.LrMachineLaws.{Config, conf, Steps, steps-of}
-use Rattle.machine.proofs.Areas.{Finished}
-use Rattle.machine.specs.Faithful.{Stops, accepted-here, wrong-here, no-steps, list-full, broken-here, stack-full}
+use Rattle.machine.specs.Faithful.{Allowed}
+use Rattle.machine.proofs.LrMachineLaws.{Config, conf, Path}
 use Rattle.claim.proofs.Means.{Limits, TableMeans}
 use Rattle.claim.proofs.Refusals.{Refusal, refusals, input-long, no-terminal, no-stack, takes}
 use Rattle.claim.proofs.Follow.{act, tab, on, follows, Followed, followed, ends-accept, ends-wrong, never-broken}
-use Rattle.machine.proofs.ReportLaws.{numberOf, positionOf, productionsOf, Read, reads, refuses, number-is, position-is, productions-are}
+use Rattle.machine.proofs.ReportLaws.{Reading, numberOf, positionOf, productionsOf, Stops, accepted-here, wrong-here, no-steps, list-full, broken-here, stack-full, Faithful, number-is, position-is, productions-are}
+use Rattle.machine.proofs.ReadsLaws.{faithful, refused-is}
 
 -- the end is named just where the input begins a sentence and is none
 end-is : (g : Grammar) (l : List ℕ) (i : ℕ) → ErrorPosition g l i → (i ≡ length l) ↔ (Begins g l × (Sentence g l → ⊥))
@@ -42,11 +43,6 @@ unsettled l r h₁ h₂ h₃ h₄ =
       names-end = λ s _. absurd (h₄ s);
     }
 
--- the position counts the shifts
-position-count : (t l st la : List ℕ) (a : ℕ) {o : Outcome} (fd : Finished t l a (start st la) (0 ∷ []) l [] o) → o .final .position + length (fd .productions) ≡ fd .steps
-unfolding start
-position-count t l st la a fd = let c = fd .count in let p = fd .places in let m = fd .holds .many in omega (arith, c, p, m)
-
 -- how a run that was not refused ends
 pub data Ended (g : Grammar) (l : List ℕ) (i : ℕ) (p : List ℕ) : ℕ → Type 0 where
   sentence : Sentence g l → Rightmost g (g.terminals ∷ []) (reverse p) l → ((q : List ℕ) → Rightmost g (g.terminals ∷ []) q l → q ≡ reverse p) → Ended g l i p 0
@@ -56,35 +52,33 @@ pub data Ended (g : Grammar) (l : List ℕ) (i : ℕ) (p : List ℕ) : ℕ → T
   out-34 : Ended g l i p 34
 
 module _ (g : Grammar) (f : Formed g) (pr : AllProductive g) (li : Limits g) (t : List ℕ) (tm : TableMeans g t) where
-  pub ended : {l : List ℕ} → Symbols g.terminals l → {k sr lr n e steps : ℕ} {qs x out : List ℕ} → Steps t steps (conf (0 ∷ []) l []) (conf qs x out) → Stops t k sr lr qs x out n e
-      → (i : ℕ) → i + length out ≡ steps → Ended g l i out n
-  ended {l} m {n = n} {steps = steps} {qs = qs} {x = x} {out = out} mv w i hi = go (follows g f pr li t tm mv [] l [] refl (Items.by-item (Items.with-lookahead Items.start)) m) refl
+  pub ended : {l : List ℕ} → Symbols g.terminals l → {a : Allowed} {n steps most : ℕ} {qs x out : List ℕ} → Path t steps most (conf (0 ∷ []) l []) (conf qs x out) → Stops t a (conf qs x out) n
+      → (i : ℕ) → (n ≡ 31 → i + length x ≡ length l) → Ended g l i out n
+  ended {l} m {a} {n} {steps} {qs = qs} {x = x} {out = out} mv w i hi = go (follows g f pr li t tm mv [] l [] refl (start-viable g) m) refl
     where
-      finish : {γ qs x out : List ℕ} → Runs.Run g (act g f pr li t tm) [] l out γ x → Items.Viable g γ → Symbols g.terminals x → qs ≡ on g f pr li t tm γ → i + length x ≡ length l
-          → {k sr lr n e : ℕ} → Stops t k sr lr qs x out n e → Ended g l i out n
+      finish : {γ qs x out : List ℕ} → Runs.Run g (act g f pr li t tm) [] l out γ x → Items.Viable g γ → Symbols g.terminals x → qs ≡ on g f pr li t tm γ
+          → {n : ℕ} → (n ≡ 31 → i + length x ≡ length l) → Stops t a (conf qs x out) n → Ended g l i out n
       finish {γ} s v mx eq ei (accepted-here h _) =
           let a = accepted g f (act g f pr li t tm) (tab g f pr li t tm) m s (ends-accept g f pr li t tm γ mx eq h refl) in
           sentence (a .sentence) (a .derivation) (a .only)
       finish {γ} s v mx eq ei (wrong-here h) =
           let z = place-of g (refused g f (act g f pr li t tm) (tab g f pr li t tm) pr m s (ends-wrong g f pr li t tm γ mx eq h refl)) in
-          let ez : z .0 ≡ i = omega (arith, z .1) in
+          let ez : z .0 ≡ i = omega (arith, z .1, ei refl) in
           no-sentence (z .2) (rw ez at (z .3))
-      finish s v mx eq ei (no-steps h _) = out-32
-      finish s v mx eq ei (list-full r _ _ _ _) = out-34
+      finish s v mx eq ei (no-steps _ _) = out-32
+      finish s v mx eq ei (list-full _ _ _) = out-34
       finish {γ} s v mx eq ei (broken-here h _ _) = absurd (never-broken g f pr li t tm v mx eq h refl)
-      finish s v mx eq ei (stack-full _ _ _ _ _ _ _) = out-33
+      finish s v mx eq ei (stack-full _ _ _ _) = out-33
 
       go : {c : Config} → Followed g f pr li t tm [] l [] steps c → c ≡ conf qs x out → Ended g l i out n
       go (followed {γ′} {x′} {p} s v mx e) ec =
           let ex : x′ ≡ x = cc in
           let eo : p ≡ out = cc in
           let eq : qs ≡ on g f pr li t tm γ′ = cc in
-          let e′ = ap length ex in
-          let e″ = ap length eo in
-          finish (rw (ex, eo) at s) v (rw ex at mx) eq (omega (arith, e, e′, e″, hi)) w
+          finish (rw (ex, eo) at s) v (rw ex at mx) eq hi w
 
-  demand-of : (l : List ℕ) (r : Reading) {i : ℕ} {p : List ℕ} {n : ℕ} → numberOf r ≡ n → (n ≡ 31 → positionOf r ≡ i) → productionsOf r ≡ p → Ended g l i p n → Demand3 g l r
-  demand-of l r en ei ep (sentence s d o) =
+  demand-of : (l : List ℕ) (r : Reading) {p : List ℕ} {n : ℕ} → numberOf r ≡ n → productionsOf r ≡ p → Ended g l (positionOf r) p n → Demand3 g l r
+  demand-of l r en ep (sentence s d o) =
       record {
         table-taken = λ h k. omega (arith, en);
         never-breaks = λ e. omega (arith, en, e);
@@ -94,19 +88,19 @@ module _ (g : Grammar) (f : Formed g) (pr : AllProductive g) (li : Limits g) (t 
         names-position = λ _ z. absurd (z en);
         names-end = λ _ z. absurd (z en);
       }
-  demand-of l r {i} en ei ep (no-sentence s p) =
+  demand-of l r en ep (no-sentence s p) =
       record {
         table-taken = λ h k. omega (arith, en);
         never-breaks = λ e. omega (arith, en, e);
         accepts = λ _. (λ z. absurd (omega (arith, en, z)), λ z. absurd (s z));
         derivation = λ z. absurd (omega (arith, en, z));
         only = λ z _ _. absurd (omega (arith, en, z));
-        names-position = λ _ z. (en, rw (ei refl) p);
-        names-end = λ _ z. rw (ei refl) (end-is g l i p);
+        names-position = λ _ z. (en, p);
+        names-end = λ _ z. end-is g l (positionOf r) p;
       }
-  demand-of l r en ei ep out-32 = unsettled l r (λ h k. omega (arith, en)) (λ e. omega (arith, en, e)) (λ e. omega (arith, en, e)) (λ s. s .steps-left en)
-  demand-of l r en ei ep out-33 = unsettled l r (λ h k. omega (arith, en)) (λ e. omega (arith, en, e)) (λ e. omega (arith, en, e)) (λ s. s .stack-left en)
-  demand-of l r en ei ep out-34 = unsettled l r (λ h k. omega (arith, en)) (λ e. omega (arith, en, e)) (λ e. omega (arith, en, e)) (λ s. s .list-left en)
+  demand-of l r en ep out-32 = unsettled l r (λ h k. omega (arith, en)) (λ e. omega (arith, en, e)) (λ e. omega (arith, en, e)) (λ s. s .steps-left en)
+  demand-of l r en ep out-33 = unsettled l r (λ h k. omega (arith, en)) (λ e. omega (arith, en, e)) (λ e. omega (arith, en, e)) (λ s. s .stack-left en)
+  demand-of l r en ep out-34 = unsettled l r (λ h k. omega (arith, en)) (λ e. omega (arith, en, e)) (λ e. omega (arith, en, e)) (λ s. s .list-left en)
 
   -- the claim
   pub demand-3 : (l st la : List ℕ) (a : ℕ) → Demand3 g l (reading t l st la a)
@@ -115,17 +109,14 @@ module _ (g : Grammar) (f : Formed g) (pr : AllProductive g) (li : Limits g) (t 
       stopped : (n : ℕ) → refusalOf t l (length st) ≡ n → 25 ≤ n → n ≤ 27 → Demand3 g l (reading t l st la a)
       stopped n e h k =
           let z : refusalOf t l (length st) ≢ 0 = λ z. omega (arith, e, z) in
-          let en : numberOf (reading t l st la a) ≡ n = ap numberOf (refuses t l st la a z) ∙ e in
+          let en : numberOf (reading t l st la a) ≡ n = ap numberOf (refused-is t l st la a (refusalOf t l (length st)) refl z) ∙ e in
           unsettled l (reading t l st la a) (λ b c. omega (arith, en)) (λ e. omega (arith, en, e)) (λ e. omega (arith, en, e)) (λ s. s .taken (omega (arith, en)) (omega (arith, en)))
 
-      read : Symbols g.terminals l → Read t l st la a (reading t l st la a) → Demand3 g l (reading t l st la a)
-      read m rd =
-          let fd = rd .finished in
-          demand-of l (reading t l st la a) (number-is rd) (λ e. position-is rd (number-is rd ∙ e)) (productions-are rd)
-          (ended m (steps-of t (fd .path)) (fd .why) (rd .outcome .final .position) (position-count t l st la a fd))
+      read : {r : Reading} → Symbols g.terminals l → Faithful t l st la a r → Demand3 g l r
+      read {r} m fd = demand-of l r (number-is fd) (productions-are fd) (ended m (fd .path) (fd .why) (positionOf r) (position-is fd))
 
       go : {n : ℕ} → Refusal g f pr li t tm l (length st) n → refusalOf t l (length st) ≡ n → Demand3 g l (reading t l st la a)
       go (input-long h) e = stopped 25 e (omega arith) (omega arith)
       go (no-terminal h k) e = stopped 26 e (omega arith) (omega arith)
       go (no-stack h k z) e = stopped 27 e (omega arith) (omega arith)
-      go (takes h m k) e = read m (reads t l st la a k e)
+      go (takes h m k) e = read m (faithful t l st la a e)

@@ -4,7 +4,7 @@ use mathlib.Core.List.{List, _++_}
 use Rattle.grammar.specs.Grammar.{Grammar, Formed}
 use Rattle.lr.specs.Cells.{Table}
 use Rattle.lr.proofs.ItemLaws.{AllProductive}
-use Rattle.machine.specs.Checks.{reading}
+use Rattle.machine.specs.ComputedRun.{reading}
 use Rattle.claim.proofs.Means.{Limits}
 use Rattle.claim.proofs.Meaning.{table-means}
 use Rattle.claim.proofs.ClaimLaws.{Demand3, demand-3}

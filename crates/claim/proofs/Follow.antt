@@ -8,8 +8,9 @@ use native.Mathlib.Omega.{arith}
 use Rattle.grammar.specs.Grammar.{Grammar, Formed, Symbols}
 use Rattle.grammar.specs.Grammar
 use Rattle.lr.proofs.Runs
+use Rattle.lr.proofs.Canonical.{by-path}
 use Rattle.lr.specs.Items
-use Rattle.machine.specs.LrMachine.{peek, rest}
+use Rattle.sets.specs.Lists.{peek, rest}
 use Rattle.lr.proofs.Runs.{Act, shift, reduce, accept, wrong}
 use Rattle.lr.proofs.ItemLaws.{AllProductive, after-positive}
 use Rattle.lr.proofs.Automaton.{goes, walk, walk-snoc, table, has-of}
@@ -17,8 +18,9 @@ use Rattle.lr.specs.Cells.{Action}
 use Rattle.lr.proofs.Paths.{Has}
 use Rattle.lr.proofs.MachineLaws.{after-viable, reduction, Reducible, reducible}
 use Rattle.lr.proofs.ErrorPosition.{top, stack, stack-snoc, stack-top, stack-pop}
+use Rattle.tables.specs.Layout
 use Rattle.tables.specs.Layout.{states, terminals, productions, cellOf, leftOf, lengthOf}
-use Rattle.machine.proofs.LrMachineLaws.{Config, conf, Step, Steps, Broken, pops-all, no-next, Ends, accepts, broken}
+use Rattle.machine.proofs.LrMachineLaws.{Config, conf, Step, Path, Broken, pops-all, no-next, Ends, accepts, broken}
 use Rattle.claim.proofs.Means.{Limits, TableMeans, automaton, cells, actionAt, action-below, decode, decode-shift, decode-reduce, decode-accept, decode-wrong, coded, shift-code, reduce-code}
 
 module _ (g : Grammar) (f : Formed g) (pr : AllProductive g) (li : Limits g) (t : List ℕ) (tm : TableMeans g t) where
@@ -43,7 +45,7 @@ module _ (g : Grammar) (f : Formed g) (pr : AllProductive g) (li : Limits g) (t 
   top-walk γ e = ap top e ∙ stack-top tm.next 0 γ []
 
   pub after-steps : {γ : List ℕ} {x : ℕ} → Runs.After g γ x → (walk tm.next 0 γ < states t) × (tm.next (walk tm.next 0 γ) x ≢ 0)
-  after-steps (Runs.dot-before (Items.with-lookahead i) e) = let h = has-of g f pr (states t) (Has g tm.next) tm.next (automaton g f pr li t tm) i in (h .0, automaton g f pr li t tm .next-some (h .0) .1 (goes (h .1) e))
+  after-steps (Runs.dot-before (Items.with-lookahead _ i) e) = let h = has-of g f pr (states t) (Has g tm.next) tm.next (automaton g f pr li t tm) (by-path i) in (h .0, automaton g f pr li t tm .next-some (h .0) .1 (goes (h .1) e))
 
   -- where the LR machine has come from a path's configuration, a run along paths has come by as many steps
   pub data Followed (γ x out : List ℕ) (n : ℕ) : Config → Type 0 where
@@ -85,7 +87,7 @@ module _ (g : Grammar) (f : Formed g) (pr : AllProductive g) (li : Limits g) (t 
           let z : Stepped γ (a ∷ w) out (conf (on (γ ++ a ∷ [])) w out) = shifted refl ea (after-viable g f act tab af) m in
           rw eo at z
   steps {γ} {qs} {x} {out} v m e (Step.reduce {q} {qs = qs′} r p ps s ec n d fc h) =
-      let ea = act-is γ m ∙ ap decode (ap (λ (z : ℕ). cellOf t z (peek x)) (sym (top-walk γ e)) ∙ ec) ∙ decode-reduce (1024 + r) r n refl in
+      let ea = act-is γ m ∙ ap decode (ap (λ (z : ℕ). cellOf t z (peek x)) (sym (top-walk γ e)) ∙ ec) ∙ decode-reduce (Layout.reduction r) r n refl in
       go ea (finds (peek x) v ea)
     where
       go : act γ (peek x) ≡ reduce r → Found r γ → Stepped γ x out (conf (s ∷ p ∷ ps) x (out ++ r ∷ []))
@@ -105,12 +107,12 @@ module _ (g : Grammar) (f : Formed g) (pr : AllProductive g) (li : Limits g) (t 
       let z : Followed γ x out (suc n) (conf (on γ′) x′ (out ++ r ∷ p)) = followed (Runs.reduced α r ea eγ s) v m (omega (arith, e)) in
       rw (← append-assoc out (r ∷ []) p) at z
 
-  pub follows : {n : ℕ} {c c′ : Config} → Steps t n c c′ → (γ x out : List ℕ) → c ≡ conf (on γ) x out → Items.Viable g γ → Symbols g.terminals x → Followed γ x out n c′
-  follows {n} {c} {c′} Steps.none γ x out e v m =
+  pub follows : {n m : ℕ} {c c′ : Config} → Path t n m c c′ → (γ x out : List ℕ) → c ≡ conf (on γ) x out → Items.Viable g γ → Symbols g.terminals x → Followed γ x out n c′
+  follows {c = c} Path.none γ x out e v m =
       let z : Followed γ x out 0 (conf (on γ) x (out ++ [])) = followed Runs.stop v m (omega arith) in
       let e′ : conf (on γ) x (out ++ []) ≡ c = ap (λ (z : List ℕ). conf (on γ) x z) (append-nil out) ∙ sym e in
       rw e′ at z
-  follows (Steps.more {n} {c′ = c′} {c″} s k) γ x out e v m = go (steps v m refl (rw e at s)) (λ γ x out e v m. follows k γ x out e v m) refl
+  follows (Path.more {n} {c′ = c′} {c″} s k) γ x out e v m = go (steps v m refl (rw e at s)) (λ γ x out e v m. follows k γ x out e v m) refl
     where
       go : {d : Config} → Stepped γ x out d → ((γ x out : List ℕ) → c′ ≡ conf (on γ) x out → Items.Viable g γ → Symbols g.terminals x → Followed γ x out n c″) → c′ ≡ d → Followed γ x out (suc n) c″
       go (shifted {m = a} {x′} ex ea va mx) ih ed = rw ex (followed-shift ea (ih (γ ++ a ∷ []) x′ out ed va mx))
@@ -119,7 +121,8 @@ module _ (g : Grammar) (f : Formed g) (pr : AllProductive g) (li : Limits g) (t 
   -- and the other way: the steps of a run along paths are the LR machine's
   pub record Led (γ x out p γ′ x′ : List ℕ) : Type 0 where
     pub count : ℕ
-    pub path : Steps t count (conf (on γ) x out) (conf (on γ′) x′ (out ++ p))
+    pub most : ℕ
+    pub path : Path t count most (conf (on γ) x out) (conf (on γ′) x′ (out ++ p))
     pub exact : count + length x′ ≡ length p + length x
 
   pub on-top : (γ : List ℕ) → (qs : List ℕ) × (on γ ≡ walk tm.next 0 γ ∷ qs)
@@ -160,18 +163,18 @@ module _ (g : Grammar) (f : Formed g) (pr : AllProductive g) (li : Limits g) (t 
           rw (← eα) (rw (← e″, ← o .1) at s, va)
 
   pub leads : {γ x p γ′ x′ : List ℕ} → Runs.Run g act γ x p γ′ x′ → (out : List ℕ) → Items.Viable g γ → Symbols g.terminals x → Led γ x out p γ′ x′
-  leads {γ} {x} Runs.stop out v m = record { count = 0; path = rw append-nil Steps.none; exact = omega arith }
+  leads {γ} {x} Runs.stop out v m = record { count = 0; most = length (on γ); path = rw append-nil Path.none; exact = omega arith }
   leads (Runs.shifted e s) out v (Symbols.more h k m) =
       let t = leads s out (after-viable g f act tab (tab.shift-from v e .1)) m in
-      record { count = suc (t .count); path = Steps.more (step-shift v (Symbols.more h k m) e) (t .path); exact = omega (arith, t .exact) }
+      record { count = suc (t .count); most = _; path = Path.more (step-shift v (Symbols.more h k m) e) (t .path); exact = omega (arith, t .exact) }
   leads (Runs.reduced {p} α r e₁ e₂ s) out v m =
       let z = step-reduce {out = out} α v m e₁ e₂ in
       let t = leads s (out ++ r ∷ []) (z .1) m in
-      record { count = suc (t .count); path = Steps.more (z .0) (rw append-assoc at (t .path)); exact = omega (arith, t .exact) }
+      record { count = suc (t .count); most = _; path = Path.more (z .0) (rw append-assoc at (t .path)); exact = omega (arith, t .exact) }
 
   -- the ends
   pub ends-accept : (γ : List ℕ) {x out qs : List ℕ} {n : ℕ} → Symbols g.terminals x → qs ≡ on γ → Ends t (conf qs x out) n → n ≡ 0 → act γ (peek x) ≡ accept
-  ends-accept γ {x} m e (Ends.accepts ec) z = act-is γ m ∙ ap decode (ap (λ (z : ℕ). cellOf t z (peek x)) (sym (top-walk γ e)) ∙ ec) ∙ decode-accept 4096 refl
+  ends-accept γ {x} m e (Ends.accepts ec) z = act-is γ m ∙ ap decode (ap (λ (z : ℕ). cellOf t z (peek x)) (sym (top-walk γ e)) ∙ ec) ∙ decode-accept Layout.accept refl
   ends-accept γ m e (Ends.wrong ec) z = absurd (omega arith)
   ends-accept γ m e (Ends.broken r ec n b) z = absurd (omega arith)
 
@@ -184,7 +187,7 @@ module _ (g : Grammar) (f : Formed g) (pr : AllProductive g) (li : Limits g) (t 
   never-broken v m e (Ends.accepts ec) z = omega arith
   never-broken v m e (Ends.wrong ec) z = omega arith
   never-broken {γ} {x} {qs} v m e (Ends.broken r ec n b) z =
-      go (finds (peek x) v (act-is γ m ∙ ap decode (ap (λ (z : ℕ). cellOf t z (peek x)) (sym (top-walk γ e)) ∙ ec) ∙ decode-reduce (1024 + r) r n refl)) e b
+      go (finds (peek x) v (act-is γ m ∙ ap decode (ap (λ (z : ℕ). cellOf t z (peek x)) (sym (top-walk γ e)) ∙ ec) ∙ decode-reduce (Layout.reduction r) r n refl)) e b
     where
       go : {qs : List ℕ} → Found r γ → qs ≡ on γ → Broken t r qs → ⊥
       go (found α eγ hr ed el nz va) e (pops-all d) =

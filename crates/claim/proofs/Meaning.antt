@@ -1,6 +1,6 @@
 -- The grammar's table by definition means the grammar for the reader: the list with anything behind it, as the maker leaves it in its area.
 use Prim.Native.Nat.{ℕ, zero, suc, _+_, _-_, _*_, _<_, _≤_}
-use mathlib.Core.Path.{_≡_, refl, sym, ap, _∙_}
+use mathlib.Core.Path.{_≡_, sym, ap, _∙_}
 use mathlib.Core.Logic.{_≢_}
 use mathlib.Core.List.{List, [], _∷_, _++_}
 use lib.ListN.{length, getD, length-append}
@@ -9,9 +9,9 @@ use native.Mathlib.Decide.{decLt}
 use native.Mathlib.Nat.{mul-le-mul-right, suc-mul}
 use Rattle.grammar.specs.Grammar.{Grammar, Formed}
 use Rattle.lr.proofs.ItemLaws.{AllProductive}
-use Rattle.lr.specs.Cells.{Cell, Action, Table}
-use Rattle.lr.proofs.OneTable.{width-is, Kind, kind, nothing, a-shift, a-reduce, an-accept}
-use Rattle.lr.proofs.Paths.{state-automaton}
+use Rattle.lr.specs.Cells.{Action, Table}
+use Rattle.lr.proofs.CellLaws.{cell-action, action-cell}
+use Rattle.lr.proofs.OneTable.{width-is}
 use Rattle.tables.specs.Layout.{states, cellOf}
 use Rattle.tables.proofs.LayoutLaws.{front-states, front-terminals, front-nonterminals, front-productions, front-size, front-left, front-length, front-cell}
 use Rattle.claim.proofs.Means.{Limits, TableMeans}
@@ -41,24 +41,10 @@ module _ (g : Grammar) (f : Formed g) (pr : AllProductive g) (li : Limits g) (co
       }
     where
       in-cell : (q m : ℕ) {v : ℕ} → q < count → m < g.terminals → Action g next q m v → cellOf (l ++ pad) q m ≡ v
-      in-cell q m h k a = cell-at q m h (omega arith) ∙ go a
-        where
-          c : Cell g count next q m (cellOf l q m)
-          c = tb.terminals q m h k
-
-          go : {v : ℕ} → Action g next q m v → cellOf l q m ≡ v
-          go (Action.shifts b z) = c .shift (next q m) (omega (arith, z)) (state-automaton g f pr count next tb.states .next-below h) .1 refl
-          go (Action.reduces r k a) = c .reduce r k .1 a
-          go (Action.accepts a) = c .accept .1 a
+      in-cell q m h k a = cell-at q m h (omega arith) ∙ cell-action g (tb.terminals q m h k) a
 
       from-cell : (q m : ℕ) → q < count → m < g.terminals → cellOf (l ++ pad) q m ≢ 0 → Action g next q m (cellOf (l ++ pad) q m)
-      from-cell q m h k z = rw (cell-at q m h (omega arith)) (go (kind g f pr li.productions-most count few next l tb q m h k) (λ e. z (cell-at q m h (omega arith) ∙ e)))
-        where
-          go : {c : ℕ} → Kind g f pr li.productions-most count few next l tb q m c → c ≢ 0 → Action g next q m c
-          go (nothing e n) nz = absurd (nz e)
-          go (a-shift e z) nz = rw e (Action.shifts k z)
-          go (a-reduce r b e a) nz = rw e (Action.reduces r b a)
-          go (an-accept e a) nz = rw e (Action.accepts a)
+      from-cell q m h k z = rw (cell-at q m h (omega arith)) (action-cell g (tb.terminals q m h k) (λ e. z (cell-at q m h (omega arith) ∙ e)))
 
       nonterminal-cell : (q x : ℕ) → q < count → g.terminals ≤ x → x < g.terminals + g.nonterminals → cellOf (l ++ pad) q x ≡ next q x
       nonterminal-cell q x h k b =

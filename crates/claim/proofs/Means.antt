@@ -8,13 +8,15 @@ use native.Mathlib.Omega.{arith}
 use native.Mathlib.Decide.{decLt}
 use Rattle.grammar.specs.Grammar.{Grammar, Formed}
 use Rattle.lr.proofs.Runs.{Act, shift, reduce, accept, wrong}
+use Rattle.lr.proofs.Canonical.{by-path}
 use Rattle.lr.specs.Items
 use Rattle.lr.specs.States.{States}
 use Rattle.lr.specs.Cells.{Action, shifts, reduces, accepts}
 use Rattle.lr.proofs.ItemLaws.{AllProductive, lookahead-terminal, added-end}
 use Rattle.lr.proofs.Paths.{Has, state-automaton}
-use Rattle.lr.proofs.Automaton.{Automaton, Cells, Lookahead, walk}
-use Rattle.tables.specs.Layout.{states, terminals, nonterminals, productions, cellOf, leftOf, lengthOf, sizeOf}
+use Rattle.lr.proofs.Automaton.{Automaton, Cells, Lookahead, walk, sits-lookahead, merged-item}
+use Rattle.tables.specs.Layout
+use Rattle.tables.specs.Layout.{states, terminals, nonterminals, productions, cellOf, leftOf, lengthOf, sizeOf, reduction}
 use Rattle.machine.proofs.LrMachineLaws.{Kind, kind, is-wrong, is-shift, is-accept, is-reduce}
 
 -- the limits of sizes
@@ -70,19 +72,19 @@ decode-shift v h k = go (kind v) h k
     go is-accept h k = absurd (omega arith)
     go (is-reduce r n) h k = absurd (omega arith)
 
-pub decode-accept : (v : ℕ) → v ≡ 4096 → decode v ≡ accept
+pub decode-accept : (v : ℕ) → v ≡ Layout.accept → decode v ≡ accept
 decode-accept v e = go (kind v) e
   where
-    go : {v : ℕ} (k : Kind v) → v ≡ 4096 → act-of k ≡ accept
+    go : {v : ℕ} (k : Kind v) → v ≡ Layout.accept → act-of k ≡ accept
     go is-wrong e = absurd (omega arith)
     go (is-shift s h k) e = absurd (omega arith)
     go is-accept e = refl
     go (is-reduce r n) e = absurd (n (omega arith))
 
-pub decode-reduce : (v r : ℕ) → r ≢ 3072 → v ≡ 1024 + r → decode v ≡ reduce r
+pub decode-reduce : (v r : ℕ) → reduction r ≢ Layout.accept → v ≡ reduction r → decode v ≡ reduce r
 decode-reduce v r n e = go (kind v) e
   where
-    go : {v : ℕ} (k : Kind v) → v ≡ 1024 + r → act-of k ≡ reduce r
+    go : {v : ℕ} (k : Kind v) → v ≡ reduction r → act-of k ≡ reduce r
     go is-wrong e = absurd (omega arith)
     go (is-shift s h k) e = absurd (omega arith)
     go is-accept e = absurd (n (omega arith))
@@ -92,8 +94,8 @@ decode-reduce v r n e = go (kind v) e
 pub data Coded : Act → ℕ → Type 0 where
   code-wrong : Coded wrong 0
   code-shift : {v : ℕ} → 0 < v → v < 1024 → Coded shift v
-  code-accept : Coded accept 4096
-  code-reduce : {r : ℕ} → r ≢ 3072 → Coded (reduce r) (1024 + r)
+  code-accept : Coded accept Layout.accept
+  code-reduce : {r : ℕ} → reduction r ≢ Layout.accept → Coded (reduce r) (reduction r)
 
 pub coded : (v : ℕ) → Coded (decode v) v
 coded v = go (kind v)
@@ -142,13 +144,13 @@ shift-code (code-shift h k) e = (h, k)
 shift-code code-accept e = let z : _≡_ {A = ℕ} 0 1 = cc in absurd (omega arith)
 shift-code (code-reduce n) e = let z : _≡_ {A = ℕ} 0 1 = cc in absurd (omega arith)
 
-pub reduce-code : {a : Act} {v r : ℕ} → Coded a v → a ≡ reduce r → (v ≡ 1024 + r) × (r ≢ 3072)
+pub reduce-code : {a : Act} {v r : ℕ} → Coded a v → a ≡ reduce r → (v ≡ reduction r) × (reduction r ≢ Layout.accept)
 reduce-code code-wrong e = let z : _≡_ {A = ℕ} 0 1 = cc in absurd (omega arith)
 reduce-code (code-shift h k) e = let z : _≡_ {A = ℕ} 0 1 = cc in absurd (omega arith)
 reduce-code code-accept e = let z : _≡_ {A = ℕ} 0 1 = cc in absurd (omega arith)
-reduce-code {r} (code-reduce {r = r′} n) e = let z : r′ ≡ r = cc in (ap (λ (k : ℕ). 1024 + k) z, λ k. n (z ∙ k))
+reduce-code {r} (code-reduce {r = r′} n) e = let z : r′ ≡ r = cc in (ap reduction z, λ k. n (ap reduction z ∙ k))
 
-pub accept-code : {a : Act} {v : ℕ} → Coded a v → a ≡ accept → v ≡ 4096
+pub accept-code : {a : Act} {v : ℕ} → Coded a v → a ≡ accept → v ≡ Layout.accept
 accept-code code-wrong e = let z : _≡_ {A = ℕ} 0 1 = cc in absurd (omega arith)
 accept-code (code-shift h k) e = let z : _≡_ {A = ℕ} 0 1 = cc in absurd (omega arith)
 accept-code code-accept e = refl
@@ -160,15 +162,15 @@ module _ (g : Grammar) (f : Formed g) (next : ℕ → ℕ → ℕ) where
   added-lookahead {q} {m} e h = go (h .path) (h .leads) (h .item)
     where
       go : (γ : List ℕ) → walk next 0 γ ≡ q → Items.Item g γ g.productions 1 → Lookahead g next q g.productions m
-      go γ el (Items.with-lookahead {a} i) =
-          let ea : a ≡ m = added-end g refl i ∙ sym e in
+      go γ el (Items.with-lookahead a i) =
+          let ea : a ≡ m = added-end g refl (by-path i) ∙ sym e in
           let n : length (g.right g.productions) ≡ 1 = ap length (f.added) in
-          record { path = γ; leads = el; item = rw n (rw ea at i) }
+          sits-lookahead g (record { path = γ; leads = el; item = rw n (rw ea at (by-path i)) })
 
   pub lookahead-added : {q m : ℕ} → Lookahead g next q g.productions m → (m ≡ 0) × Has g next q g.productions 1
   lookahead-added a =
       let n : length (g.right g.productions) ≡ 1 = ap length (f.added) in
-      (added-end g refl (a .item), record { path = a .path; leads = a .leads; item = Items.with-lookahead (rw n at (a .item)) })
+      (added-end g refl (by-path (a .merged .item)), record { path = a .path; leads = a .leads; item = rw n at (merged-item g (a .merged)) })
 
 module _ (g : Grammar) (f : Formed g) (pr : AllProductive g) (li : Limits g) (t : List ℕ) (tm : TableMeans g t) where
   pub automaton : Automaton g (states t) (Has g tm.next) tm.next
@@ -215,14 +217,14 @@ module _ (g : Grammar) (f : Formed g) (pr : AllProductive g) (li : Limits g) (t 
           let c = reduce-code (coded (cellOf t q m)) (sym (action-below t q m b) ∙ e) in
           go (tm.from-cell h (below b) (omega (arith, c .0))) (c .0) (c .1)
         where
-          go : {v : ℕ} → Action g tm.next q m v → v ≡ 1024 + r → r ≢ 3072 → (r < g.productions) × Lookahead g tm.next q r m
+          go : {v : ℕ} → Action g tm.next q m v → v ≡ reduction r → reduction r ≢ Layout.accept → (r < g.productions) × Lookahead g tm.next q r m
           go (shifts k z) c n = absurd (let k = next-most q m h in omega arith)
           go (reduces r′ k a) c n = let z : r′ ≡ r = omega arith in let p : (r′ < g.productions) × Lookahead g tm.next q r′ m = (k, a) in rw z at p
           go (accepts a) c n = absurd (n (omega arith))
 
       from-reduce : (q m r : ℕ) → q < states t → r < g.productions → Lookahead g tm.next q r m → actionAt t q m ≡ reduce r
       from-reduce q m r h k a =
-          let b = lookahead-terminal g f (a .item) in
+          let b = lookahead-terminal g f (by-path (a .merged .item)) in
           let n = li.productions-most in
           action-below t q m (above b) ∙ decode-reduce (cellOf t q m) r (omega arith) (tm.in-cell h b (reduces r k a))
 
@@ -232,7 +234,7 @@ module _ (g : Grammar) (f : Formed g) (pr : AllProductive g) (li : Limits g) (t 
           let c = accept-code (coded (cellOf t q m)) (sym (action-below t q m b) ∙ e) in
           go (tm.from-cell h (below b) (omega (arith, c))) c
         where
-          go : {v : ℕ} → Action g tm.next q m v → v ≡ 4096 → (m ≡ 0) × Has g tm.next q g.productions 1
+          go : {v : ℕ} → Action g tm.next q m v → v ≡ Layout.accept → (m ≡ 0) × Has g tm.next q g.productions 1
           go (shifts k z) c = absurd (let k = next-most q m h in omega arith)
           go (reduces r k a) c = absurd (let n = li.productions-most in omega arith)
           go (accepts a) c = lookahead-added g f tm.next a

@@ -6,8 +6,7 @@ use mathlib.Core.List.{List, [], _∷_, reverse}
 use lib.ListN.{length}
 use Rattle.grammar.specs.Grammar.{Grammar, Sentence, Rightmost}
 use Rattle.grammar.specs.Prefix.{Begins, ErrorPosition}
-use Rattle.machine.specs.Checks.{Reading}
-use Rattle.machine.specs.Report.{numberOf, positionOf, productionsOf}
+use Rattle.machine.specs.Report.{Reading, numberOf, positionOf, productionsOf}
 
 -- "takes the line and does not run out of moves, stack or list": the answer is no refusal, and none of 32, 33, 34
 pub record Settled (n : ℕ) : Type 0 where

@@ -13,7 +13,7 @@ use borrow.Author.Tests.{eqb-true, eq-eqb}
 use Rattle.closures.specs.Numbers.{afterOf}
 use Rattle.closures.specs.Sets.{Afters, Stays}
 use Rattle.items.proofs.ItemLaws.{item-put, item-empty}
-use Rattle.items.specs.Item.{item, put, Put, Next}
+use Rattle.items.specs.Item.{setSize, itemLimit, item, put, Put, Next}
 use Rattle.sets.proofs.BitLaws.{one-shl}
 use Rattle.sets.proofs.HasLaws.{lt-or-ge, or-cases, or-left, or-right}
 
@@ -25,8 +25,8 @@ put-of a x h =
     record { words = e; items = λ k. ap (λ (ws : List ℕ). item ws k) e ∙ item-put a x k h }
 
 module _ (c s : List ℕ) where
-  pub afters-start : Afters c s 0 (replicate 11 0)
-  afters-start = record { all = λ i l. absurd (not-suc-le-zero l); from = λ x e. absurd (false≢true (sym (item-empty 11 x) ∙ e)) }
+  pub afters-start : Afters c s 0 (replicate setSize 0)
+  afters-start = record { all = λ i l. absurd (not-suc-le-zero l); from = λ x e. absurd (false≢true (sym (item-empty setSize x) ∙ e)) }
 
   -- no item stands between n and r
   pub afters-next : (n r : ℕ) (a : List ℕ) → Afters c s n a → Next s n r → Afters c s r a
@@ -56,5 +56,5 @@ module _ (c s : List ℕ) where
   }
 
   -- no item of s stands before a symbol that is not among them
-  pub stays : (a : List ℕ) (x : ℕ) → Afters c s 704 a → item a x ≡ false → Stays c s x
+  pub stays : (a : List ℕ) (x : ℕ) → Afters c s itemLimit a → item a x ≡ false → Stays c s x
   stays a x p e i l h f = true≢false (sym (p .all i l h) ∙ ap (item a) f ∙ e)

@@ -9,20 +9,20 @@ use native.Mathlib.Omega.{arith}
 use lib.ListN.{drop, length-take, List·getD-eq-default}
 use Rattle.closures.proofs.MaskLaws.{mask-after, after-mask}
 use Rattle.closures.proofs.NumberLaws.{after-low}
-use Rattle.closures.specs.Areas.{slot, Closures, Masks}
+use Rattle.closures.specs.Areas.{closuresAt, masksAt, slot, Closures, Masks}
 use Rattle.closures.specs.Numbers.{firstOf, afterOf}
 use Rattle.closures.specs.Sets.{Reach, base, Closed, Advanced}
 use Rattle.grammar.proofs.CardLaws.{WellFormed}
 use Rattle.grammar.specs.Card.{terminals, nonterminals, productions, leftOf}
-use Rattle.items.specs.Item.{item, Union, Shifted, Next}
+use Rattle.items.specs.Item.{setSize, itemLimit, item, Union, Shifted, Next}
 use Rattle.sets.proofs.BitLaws.{bit-zero}
 use Rattle.sets.proofs.HasLaws.{lt-or-ge, or-cases, or-left, or-right}
 use Rattle.sets.specs.Bit.{bit}
 
 -- i is the next item of s
 pub record Walk (s : List ℕ) (i : ℕ) : Type 0 where
-  pub most : i ≤ 704
-  pub here : i < 704 → item s i ≡ true
+  pub most : i ≤ itemLimit
+  pub here : i < itemLimit → item s i ≡ true
 
 pub walk-next : (s : List ℕ) (n r : ℕ) → Next s n r → Walk s r
 walk-next s n r q = record { most = q .most; here = q .here }
@@ -30,7 +30,7 @@ walk-next s n r q = record { most = q .most; here = q .here }
 -- r is s, and what the items of s below n bring
 pub record Closing (c z s : List ℕ) (n : ℕ) (r : List ℕ) : Type 0 where
   pub kept : (k : ℕ) → item s k ≡ true → item r k ≡ true
-  pub all : (i j k : ℕ) → i < n → item s i ≡ true → afterOf c i ≡ terminals c + j → item (slot z (256 + j)) k ≡ true → item r k ≡ true
+  pub all : (i j k : ℕ) → i < n → item s i ≡ true → afterOf c i ≡ terminals c + j → item (slot z (closuresAt + j)) k ≡ true → item r k ≡ true
   pub from : (k : ℕ) → item r k ≡ true → Reach c s k
   pub shut : (i : ℕ) → item r i ≡ true → (item s i ≡ true) ⊎ ((q : ℕ) → q < productions c → leftOf c q ≡ afterOf c i → item r (firstOf c q) ≡ true)
 
@@ -62,7 +62,7 @@ module _ (c z s : List ℕ) where
 
   -- item i stands before a nonterminal, whose closure is joined
   pub closing-take : (i x m : ℕ) (t row u : List ℕ) → Closures c z (nonterminals c) → Closing c z s i t → item s i ≡ true → x ≡ afterOf c i → m ≡ terminals c → m ≤ x → x - m < nonterminals c
-      → row ≡ slot z (256 + (x - m)) → Union t row u → Closing c z s (i + 1) u
+      → row ≡ slot z (closuresAt + (x - m)) → Union t row u → Closing c z s (i + 1) u
   closing-take i x m t row u rs p h ex em l bn er j =
       let ax : afterOf c i ≡ terminals c + (x - m) = omega arith in
       record {
@@ -82,7 +82,7 @@ module _ (c z s : List ℕ) where
             (or-cases (item t g) (item row g) (sym (j .items g) ∙ e));
       }
 
-  pub closing-end : (i : ℕ) (t : List ℕ) → WellFormed c → Closures c z (nonterminals c) → Closing c z s i t → 704 ≤ i → Closed c s t
+  pub closing-end : (i : ℕ) (t : List ℕ) → WellFormed c → Closures c z (nonterminals c) → Closing c z s i t → itemLimit ≤ i → Closed c s t
   closing-end i t h rs p l = record {
     kept = p .kept;
     all = λ g q b e a f.
@@ -101,26 +101,26 @@ module _ (c z s : List ℕ) where
 -- ---- advancing by the mask of the symbol
 
 -- a set of 11 words has no item from 704 on
-pub slot-low : (z : List ℕ) (q i : ℕ) → item (slot z q) i ≡ true → i < 704
+pub slot-low : (z : List ℕ) (q i : ℕ) → item (slot z q) i ≡ true → i < itemLimit
 unfolding item
 slot-low z q i e =
-    ⊎-elim (λ (g : i < 704). g)
-    (λ (g : 704 ≤ i).
-    absurd (false≢true (sym (ap (λ (v : ℕ). bit v (i % 64)) (List·getD-eq-default (slot z q) 0 {n = i / 64} (omega (arith, length-take 11 (drop (q * 11) z)))) ∙ bit-zero (i % 64)) ∙ e)))
-    (lt-or-ge i 704)
+    ⊎-elim (λ (g : i < itemLimit). g)
+    (λ (g : itemLimit ≤ i).
+    absurd (false≢true (sym (ap (λ (v : ℕ). bit v (i % 64)) (List·getD-eq-default (slot z q) 0 {n = i / 64} (omega (arith, length-take setSize (drop (q * setSize) z)))) ∙ bit-zero (i % 64)) ∙ e)))
+    (lt-or-ge i itemLimit)
 
-module _ (c z s : List ℕ) (x : ℕ) (f : WellFormed c) (m : Masks c z 704) (px : 0 < x) (h : x < terminals c + nonterminals c) where
-  pub advances : (k r : List ℕ) → k ≡ slot z (316 + x) → Shifted s k r → Advanced c s x r
+module _ (c z s : List ℕ) (x : ℕ) (f : WellFormed c) (m : Masks c z itemLimit) (px : 0 < x) (h : x < terminals c + nonterminals c) where
+  pub advances : (k r : List ℕ) → k ≡ slot z (masksAt + x) → Shifted s k r → Advanced c s x r
   advances k r ek d = record {
     from = λ n e.
         let t = d .from n e in
-        let g : item (slot z (316 + x)) (t .0) ≡ true = rw ek at (t .3) in
-        (t .0, t .2, mask-after c z x (t .0) m h (slot-low z (316 + x) (t .0) g) g, t .1);
+        let g : item (slot z (masksAt + x)) (t .0) ≡ true = rw ek at (t .3) in
+        (t .0, t .2, mask-after c z x (t .0) m h (slot-low z (masksAt + x) (t .0) g) g, t .1);
     all = λ i l e a. d .all i l e (rw ek (after-mask c z x i m h (omega arith) a));
   }
 
   -- something is advanced where an item stands before x
-  pub some-advanced : (k r : List ℕ) → k ≡ slot z (316 + x) → Shifted s k r → (i : ℕ) × (i < 704) × (item s i ≡ true) × (afterOf c i ≡ x) → (i : ℕ) × (i < 704) × (item r i ≡ true)
+  pub some-advanced : (k r : List ℕ) → k ≡ slot z (masksAt + x) → Shifted s k r → (i : ℕ) × (i < itemLimit) × (item s i ≡ true) × (afterOf c i ≡ x) → (i : ℕ) × (i < itemLimit) × (item r i ≡ true)
   some-advanced k r ek d t =
       let l : t .0 ≤ 640 = after-low c f (t .0) (λ b. omega (arith, t .3)) in
       (t .0 + 1, omega arith, d .all (t .0) (omega arith) (t .2) (rw ek (after-mask c z x (t .0) m h (t .1) (t .3))))

@@ -6,6 +6,7 @@ use Prim.Native.Nat.{ℕ, suc, _+_, _≤_, _<_}
 use native.Mathlib.Omega.{arith}
 use lib.ListN.{length, set, length-set}
 use lib.Seq.{getD-set-same, getD-set-other}
+use Rattle.items.specs.Item.{itemLimit}
 use Rattle.closures.proofs.NumberLaws.{first-next, after-at, after-end, after-added}
 use Rattle.closures.specs.Areas.{Filled}
 use Rattle.closures.specs.Numbers.{firstOf, afterOf}
@@ -46,8 +47,8 @@ added-first c r p s f h ep er es ef =
     let z : f ≡ startOf c (productions c) + productions c = rw (sym ep, sym er) (ef ∙ rw (es, er)) in
     (z, omega (arith, z, h .sum, h .limits .productions-to, h .limits .symbols-to))
 
-pub filled-last : (c w : List ℕ) (r p s f v : ℕ) → WellFormed c → p ≡ productions c → r ≡ p → s ≡ startOf c r → f ≡ s + p → v ≡ terminals c → 704 ≤ length w → Filled c w (firstOf c r)
-    → (firstOf c (productions c) < f + 1) × (f + 1 ≤ 704) × (704 ≤ length (set w f v)) × Filled c (set w f v) (f + 1)
+pub filled-last : (c w : List ℕ) (r p s f v : ℕ) → WellFormed c → p ≡ productions c → r ≡ p → s ≡ startOf c r → f ≡ s + p → v ≡ terminals c → itemLimit ≤ length w → Filled c w (firstOf c r)
+    → (firstOf c (productions c) < f + 1) × (f + 1 ≤ itemLimit) × (itemLimit ≤ length (set w f v)) × Filled c (set w f v) (f + 1)
 filled-last c w r p s f v h ep er es ef ev l a =
     let z = added-first c r p s f h ep er es ef in
     let z0 : f ≡ firstOf c (productions c) = z .0 in

@@ -14,7 +14,7 @@ use lib.Seq.{getD-set-same, getD-set-other}
 use borrow.Author.Count.{below-more}
 use borrow.Author.Tests.{eqb-true, eq-eqb}
 use Rattle.closures.proofs.NumberLaws.{after-most}
-use Rattle.closures.specs.Areas.{Leads, own, next, Begun, Through, Widened, Led, Firsts, Closures, Added}
+use Rattle.closures.specs.Areas.{closuresAt, Leads, own, next, Begun, Through, Widened, Led, Firsts, Closures, Added}
 use Rattle.closures.specs.Numbers.{firstOf, afterOf}
 use Rattle.closures.specs.Sets.{Reach, base, step}
 use Rattle.grammar.proofs.CardLaws.{WellFormed}
@@ -221,7 +221,7 @@ brought c s i j m h a (own _ e) q hq el = step i q _ (base i h) hq (el ∙ ap (�
 brought c s i j m h a (next n r _ l hr er ea) q hq el = step (firstOf c r) q _ (brought c s i j n h a l r hr er) hq (el ∙ sym ea) refl
 
 module _ (c z y w : List ℕ) (j : ℕ) (r : List ℕ) (f : WellFormed c) (p : Closures c z j) (d : Led c w) (h : j < nonterminals c)
-    (o : Firsts c (bitOr (getD w j 0) (2 ^ j)) (productions c) r) (ad : Added z (256 + j) r y) where
+    (o : Firsts c (bitOr (getD w j 0) (2 ^ j)) (productions c) r) (ad : Added z (closuresAt + j) r y) where
   leads-of : (k : ℕ) → bit (bitOr (getD w j 0) (2 ^ j)) k ≡ true → Leads c j k
   leads-of k e = ⊎-elim (λ u. d .from j k u) (λ u. own k (has-one j k u)) (has-or (getD w j 0) (2 ^ j) k e)
 
@@ -245,15 +245,15 @@ module _ (c z y w : List ℕ) (j : ℕ) (r : List ℕ) (f : WellFormed c) (p : C
   pub closures-more : Closures c y (j + 1)
   closures-more = record {
     starts = λ i q l b e.
-        ⊎-elim (λ (g : i < j). rw (ad .low (256 + i) (omega arith)) (p .starts i q g b e))
+        ⊎-elim (λ (g : i < j). rw (ad .low (closuresAt + i) (omega arith)) (p .starts i q g b e))
         (λ (g : j ≤ i).
         let v : i ≡ j = omega arith in
         rw (v, ad .new) (first-of q b (own _ (let u : j ≡ leftOf c q - terminals c = omega arith in u)))) (lt-or-ge i j);
     all = λ i k q l e b a.
-        ⊎-elim (λ (g : i < j). rw (ad .low (256 + i) (omega arith)) (p .all i k q g (rw (ad .low (256 + i) (omega arith)) at e) b a))
+        ⊎-elim (λ (g : i < j). rw (ad .low (closuresAt + i) (omega arith)) (p .all i k q g (rw (ad .low (closuresAt + i) (omega arith)) at e) b a))
         (λ (g : j ≤ i). let v : i ≡ j = omega arith in rw (v, ad .new) (shut k q (rw (v, ad .new) at e) b a)) (lt-or-ge i j);
     from = λ i k l e s n b a.
-        ⊎-elim (λ (g : i < j). p .from i k g (rw (ad .low (256 + i) (omega arith)) at e) s n b a)
+        ⊎-elim (λ (g : i < j). p .from i k g (rw (ad .low (closuresAt + i) (omega arith)) at e) s n b a)
         (λ (g : j ≤ i).
         let v : i ≡ j = omega arith in
         let t = o .from k (rw (v, ad .new) at e) in

@@ -10,27 +10,28 @@ use lib.Dec.{eqb, ltb}
 use lib.ListN.{length}
 use borrow.Author.Tests.{eqb-true, lt-ltb, le-ltb, eq-eqb, ne-eqb}
 use Rattle.closures.proofs.AreaLaws.{kept-same, kept-then}
-use Rattle.closures.specs.Areas.{slot, Kept, Closures, Masks, Masked, Added}
+use Rattle.closures.specs.Areas.{closuresAt, masksAt, slotsEnd, slot, Kept, Closures, Masks, Masked, Added}
 use Rattle.closures.specs.Numbers.{afterOf}
 use Rattle.grammar.specs.Card.{terminals, nonterminals}
-use Rattle.items.specs.Item.{item, Put, Empty}
+use Rattle.items.specs.Item.{itemLimit, item, Put, Empty}
 use Rattle.sets.proofs.HasLaws.{lt-or-ge, ltb-more}
 use Rattle.sets.proofs.TestLaws.{and-true, and-right}
+use Rattle.areas.specs.Areas.{wordsSize}
 
 -- the slots of the symbols below x are empty
 pub record Clearing (z₀ z : List ℕ) (x : ℕ) : Type 0 where
-  pub clear : (y k : ℕ) → y < x → item (slot z (316 + y)) k ≡ false
-  pub low : (q : ℕ) → q < 316 → slot z q ≡ slot z₀ q
-  pub behind : Kept z₀ 4840 z
+  pub clear : (y k : ℕ) → y < x → item (slot z (masksAt + y)) k ≡ false
+  pub low : (q : ℕ) → q < masksAt → slot z q ≡ slot z₀ q
+  pub behind : Kept z₀ slotsEnd z
   pub wide : length z ≡ length z₀
 
 pub clearing-start : (z : List ℕ) → Clearing z z 0
-clearing-start z = record { clear = λ y k h. absurd (not-suc-le-zero h); low = λ q h. refl; behind = kept-same z 4840; wide = refl }
+clearing-start z = record { clear = λ y k h. absurd (not-suc-le-zero h); low = λ q h. refl; behind = kept-same z slotsEnd; wide = refl }
 
-pub clearing-more : (z₀ z y s : List ℕ) (x : ℕ) → Clearing z₀ z x → x < 124 → Empty s → Added z (316 + x) s y → length y ≡ length z → Clearing z₀ y (x + 1)
+pub clearing-more : (z₀ z y s : List ℕ) (x : ℕ) → Clearing z₀ z x → x < 124 → Empty s → Added z (masksAt + x) s y → length y ≡ length z → Clearing z₀ y (x + 1)
 clearing-more z₀ z y s x p h e ad l = record {
   clear = λ v k b.
-      ⊎-elim (λ (g : v < x). rw (ad .low (316 + v) (omega arith)) (p .clear v k g))
+      ⊎-elim (λ (g : v < x). rw (ad .low (masksAt + v) (omega arith)) (p .clear v k g))
       (λ (g : x ≤ v). let u : v ≡ x = omega arith in rw (u, ad .new) (e .items k)) (lt-or-ge v x);
   low = λ q b. ad .low q (omega arith) ∙ p .low q b;
   behind = kept-then (p .behind) (ad .behind) (omega arith);
@@ -46,17 +47,17 @@ cleared c z₀ z x p h = record {
 }
 
 pub masked-start : (c z : List ℕ) → Masks c z 0 → Masked c z z 0
-masked-start c z m = record { masks = m; low = λ q h. refl; behind = kept-same z 4840; wide = refl }
+masked-start c z m = record { masks = m; low = λ q h. refl; behind = kept-same z slotsEnd; wide = refl }
 
-pub masked-more : (c z₀ z y m u : List ℕ) (i x : ℕ) → Masked c z₀ z i → 8192 ≤ length z → terminals c + nonterminals c ≤ 124 → i < 704 → x ≡ afterOf c i → x < terminals c + nonterminals c → m ≡ slot z (316 + x) → Put m i u → Added z (316 + x) u y
+pub masked-more : (c z₀ z y m u : List ℕ) (i x : ℕ) → Masked c z₀ z i → wordsSize ≤ length z → terminals c + nonterminals c ≤ 124 → i < itemLimit → x ≡ afterOf c i → x < terminals c + nonterminals c → m ≡ slot z (masksAt + x) → Put m i u → Added z (masksAt + x) u y
     → length y ≡ length z → Masked c z₀ y (i + 1)
 masked-more c z₀ z y m u i x p room w h ex hx em pu ad l = record {
   masks = λ v k b g.
       ⊎-elim
-      (λ (a : v < x). rw (ad .low (316 + v) (omega arith)) (p .masks v k b g ∙ other v k (λ e. omega arith)))
+      (λ (a : v < x). rw (ad .low (masksAt + v) (omega arith)) (p .masks v k b g ∙ other v k (λ e. omega arith)))
       (λ (a : x ≤ v).
       ⊎-elim
-      (λ (t : x < v). rw (ad .high (316 + v) (omega arith) (omega arith)) (p .masks v k b g ∙ other v k (λ e. omega arith)))
+      (λ (t : x < v). rw (ad .high (masksAt + v) (omega arith) (omega arith)) (p .masks v k b g ∙ other v k (λ e. omega arith)))
       (λ (t : v ≤ x). let e : v ≡ x = omega arith in rw (e, ad .new) (pu .items k ∙ ap (λ (s : List ℕ). item s k || eqb i k) em ∙ ap (λ (t : Bool). t || eqb i k) (p .masks x k hx g) ∙ own k))
       (lt-or-ge x v))
       (lt-or-ge v x);
@@ -90,19 +91,19 @@ masked-more c z₀ z y m u i x p room w h ex hx em pu ad l = record {
         ∙ ap (λ (t : Bool). t && eqb (afterOf c k) v) (sym (ltb-more k i))
 
 -- the closures stay while the masks are made
-pub prepared-closures : (c z₀ z₁ z₂ : List ℕ) → nonterminals c ≤ 60 → Closures c z₀ (nonterminals c) → Masked c z₀ z₁ 0 → Masked c z₁ z₂ 704 → Closures c z₂ (nonterminals c)
+pub prepared-closures : (c z₀ z₁ z₂ : List ℕ) → nonterminals c ≤ 60 → Closures c z₀ (nonterminals c) → Masked c z₀ z₁ 0 → Masked c z₁ z₂ itemLimit → Closures c z₂ (nonterminals c)
 prepared-closures c z₀ z₁ z₂ b p m n = record {
   starts = λ j q g. rw (same j g) (p .starts j q g);
   all = λ j i q g. rw (same j g) (p .all j i q g);
   from = λ j k g. rw (same j g) (p .from j k g);
 }
   where
-    same : (j : ℕ) → j < nonterminals c → slot z₂ (256 + j) ≡ slot z₀ (256 + j)
-    same j g = n .low (256 + j) (omega arith) ∙ m .low (256 + j) (omega arith)
+    same : (j : ℕ) → j < nonterminals c → slot z₂ (closuresAt + j) ≡ slot z₀ (closuresAt + j)
+    same j g = n .low (closuresAt + j) (omega arith) ∙ m .low (closuresAt + j) (omega arith)
 
 -- a masked item is one that stands before the symbol
-pub mask-after : (c z : List ℕ) (x i : ℕ) → Masks c z 704 → x < terminals c + nonterminals c → i < 704 → item (slot z (316 + x)) i ≡ true → afterOf c i ≡ x
-mask-after c z x i m h l e = eqb-true (afterOf c i) x (and-right (ltb i 704) (eqb (afterOf c i) x) (sym (m x i h l) ∙ e))
+pub mask-after : (c z : List ℕ) (x i : ℕ) → Masks c z itemLimit → x < terminals c + nonterminals c → i < itemLimit → item (slot z (masksAt + x)) i ≡ true → afterOf c i ≡ x
+mask-after c z x i m h l e = eqb-true (afterOf c i) x (and-right (ltb i itemLimit) (eqb (afterOf c i) x) (sym (m x i h l) ∙ e))
 
-pub after-mask : (c z : List ℕ) (x i : ℕ) → Masks c z 704 → x < terminals c + nonterminals c → i < 704 → afterOf c i ≡ x → item (slot z (316 + x)) i ≡ true
-after-mask c z x i m h l e = m x i h l ∙ and-true (lt-ltb i 704 l) (eq-eqb (afterOf c i) x e)
+pub after-mask : (c z : List ℕ) (x i : ℕ) → Masks c z itemLimit → x < terminals c + nonterminals c → i < itemLimit → afterOf c i ≡ x → item (slot z (masksAt + x)) i ≡ true
+after-mask c z x i m h l e = m x i h l ∙ and-true (lt-ltb i itemLimit l) (eq-eqb (afterOf c i) x e)

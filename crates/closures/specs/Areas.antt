@@ -1,5 +1,6 @@
--- What stands in the work areas while the states are made. Slots of 11 words: slot q < 256 is for state q, slot 256 + j the closure of the
--- first items of nonterminal T + j, slot 316 + x the items that stand before symbol x. The second area holds the symbol after each dot.
+-- What stands in the work areas while the states are made. The first is in slots, an item set to a slot: first one for each of 256 states, then,
+-- for each of 60 nonterminals, the closure of its first items, then, for each of 124 symbols, the items that stand before it.
+-- The second area holds the symbol after each dot.
 use mathlib.Core.Bool.{true, _&&_}
 use mathlib.Core.List.{List}
 use mathlib.Core.Logic.{_⊎_}
@@ -10,11 +11,26 @@ use lib.ListN.{length, getD, take, drop}
 use Rattle.closures.specs.Numbers.{firstOf, afterOf}
 use Rattle.closures.specs.Sets.{Reach}
 use Rattle.grammar.specs.Card.{terminals, nonterminals, productions, leftOf}
-use Rattle.items.specs.Item.{item}
+use Rattle.items.specs.Item.{setSize, itemLimit, item}
 use Rattle.sets.specs.Bit.{bit}
+use Rattle.areas.specs.Areas.{wordsSize}
 
+-- the slots of the first nonterminal and of the first symbol, how many slots there are, and the place behind them
+abbrev pub closuresAt : ℕ
+closuresAt = 256
+
+abbrev pub masksAt : ℕ
+masksAt = closuresAt + 60
+
+abbrev pub slotCount : ℕ
+slotCount = masksAt + 124
+
+abbrev pub slotsEnd : ℕ
+slotsEnd = slotCount * setSize
+
+-- the set in slot q
 abbrev pub slot : List ℕ → ℕ → List ℕ
-slot l q = take 11 (drop (q * 11) l)
+slot l q = take setSize (drop (q * setSize) l)
 
 -- from the place n on, l is as l₀ was
 pub record Kept (l₀ : List ℕ) (n : ℕ) (l : List ℕ) : Type 0 where
@@ -60,29 +76,29 @@ pub record Firsts (c : List ℕ) (w n : ℕ) (r : List ℕ) : Type 0 where
 
 -- the closures of the nonterminals below n
 pub record Closures (c z : List ℕ) (n : ℕ) : Type 0 where
-  pub starts : (j q : ℕ) → j < n → q < productions c → leftOf c q ≡ terminals c + j → item (slot z (256 + j)) (firstOf c q) ≡ true
-  pub all : (j i q : ℕ) → j < n → item (slot z (256 + j)) i ≡ true → q < productions c → leftOf c q ≡ afterOf c i → item (slot z (256 + j)) (firstOf c q) ≡ true
-  pub from : (j k : ℕ) → j < n → item (slot z (256 + j)) k ≡ true → (s : List ℕ) (i : ℕ) → item s i ≡ true → afterOf c i ≡ terminals c + j → Reach c s k
+  pub starts : (j q : ℕ) → j < n → q < productions c → leftOf c q ≡ terminals c + j → item (slot z (closuresAt + j)) (firstOf c q) ≡ true
+  pub all : (j i q : ℕ) → j < n → item (slot z (closuresAt + j)) i ≡ true → q < productions c → leftOf c q ≡ afterOf c i → item (slot z (closuresAt + j)) (firstOf c q) ≡ true
+  pub from : (j k : ℕ) → j < n → item (slot z (closuresAt + j)) k ≡ true → (s : List ℕ) (i : ℕ) → item s i ≡ true → afterOf c i ≡ terminals c + j → Reach c s k
 
 -- the items below n that stand before each symbol
 abbrev pub Masks : List ℕ → List ℕ → ℕ → Type 0
-Masks c z n = (x i : ℕ) → x < terminals c + nonterminals c → i < 704 → item (slot z (316 + x)) i ≡ (ltb i n && eqb (afterOf c i) x)
+Masks c z n = (x i : ℕ) → x < terminals c + nonterminals c → i < itemLimit → item (slot z (masksAt + x)) i ≡ (ltb i n && eqb (afterOf c i) x)
 
 -- z is z₀ with such masks
 pub record Masked (c z₀ z : List ℕ) (n : ℕ) : Type 0 where
   pub masks : Masks c z n
-  pub low : (q : ℕ) → q < 316 → slot z q ≡ slot z₀ q
-  pub behind : Kept z₀ 4840 z
+  pub low : (q : ℕ) → q < masksAt → slot z q ≡ slot z₀ q
+  pub behind : Kept z₀ slotsEnd z
   pub wide : length z ≡ length z₀
 
 pub record Prepared (c z : List ℕ) : Type 0 where
   pub closures : Closures c z (nonterminals c)
-  pub masks : Masks c z 704
-  pub room : 8192 ≤ length z
+  pub masks : Masks c z itemLimit
+  pub room : wordsSize ≤ length z
 
 -- y is z with s in slot n
 pub record Added (z : List ℕ) (n : ℕ) (s y : List ℕ) : Type 0 where
   pub new : slot y n ≡ s
   pub low : (q : ℕ) → q < n → slot y q ≡ slot z q
-  pub high : (q : ℕ) → n < q → q * 11 + 11 ≤ length z → slot y q ≡ slot z q
-  pub behind : Kept z (n * 11 + 11) y
+  pub high : (q : ℕ) → n < q → q * setSize + setSize ≤ length z → slot y q ≡ slot z q
+  pub behind : Kept z (n * setSize + setSize) y

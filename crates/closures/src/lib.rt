@@ -1,18 +1,25 @@
 // Closures of item sets, and what they are made with.
-// z holds item sets in slots of 11 words: slot q < 256 is for state q, slot 256 + j holds the closure of the first items of nonterminal T + j,
-// slot 316 + x the items that stand before symbol x. w holds the symbol after the dot of each item, 0 where there is none.
+// z holds item sets in slots: slot q < 256 is for state q, slot CLOSURES + j holds the closure of the first items of nonterminal T + j,
+// slot MASKS + x the items that stand before symbol x. w holds the symbol after the dot of each item, 0 where there is none.
 ghost use mathlib.Core.Path.{_≡_};
-ghost use Prim.Native.Nat.{suc, _≤_, _<_};
+ghost use Prim.Native.Nat.{suc, _*_, _≤_, _<_};
 ghost use lib.ListN.{length};
 ghost use Rattle.grammar.specs.Card.{nonterminals, productions, lengthOf, startOf, formFault};
+ghost use Rattle.areas.specs.Areas.{wordsSize};
+ghost use Rattle.items.specs.Item.{setSize, itemLimit};
 ghost use Rattle.closures.specs.Numbers.{firstOf};
 ghost use Rattle.closures.specs.Sets.{Closed, Afters};
-ghost use Rattle.closures.specs.Areas.{Kept, Filled, Begun, Through, Widened, Led, Firsts, Closures, Masks, Masked, Prepared};
+ghost use Rattle.closures.specs.Areas.{masksAt, slotsEnd, Kept, Filled, Begun, Through, Widened, Led, Firsts, Closures, Masks, Masked, Prepared};
+
+// The slots of the first nonterminal, and of the first symbol.
+pub const CLOSURES: usize = 256;
+
+pub const MASKS: usize = CLOSURES + 60;
 
 // The symbols after the dots of one production's items, from the number of its first item on: its right side and a 0.
 fn fill_production(c: &[u16], w: &mut [u32], r: u16, f: usize, s: u32, n: u16)
-    requires { ⌜ (formFault (now c) ≡ 0) × (r < productions (now c)) × (n ≡ lengthOf (now c) r) × (s ≡ startOf (now c) r) × (f ≡ firstOf (now c) r) × (704 ≤ length (now w)) × Filled (now c) (now w) f ⌝ }
-    ensures { λ _. ⌜ Filled (now (c .entry)) (now (w .exit)) (firstOf (now (c .entry)) (suc r)) × Kept (now (w .entry)) 704 (now (w .exit)) ⌝ }
+    requires { ⌜ (formFault (now c) ≡ 0) × (r < productions (now c)) × (n ≡ lengthOf (now c) r) × (s ≡ startOf (now c) r) × (f ≡ firstOf (now c) r) × (itemLimit ≤ length (now w)) × Filled (now c) (now w) f ⌝ }
+    ensures { λ _. ⌜ Filled (now (c .entry)) (now (w .exit)) (firstOf (now (c .entry)) (suc r)) × Kept (now (w .entry)) itemLimit (now (w .exit)) ⌝ }
 {
     let mut i: u16 = 0;
     while i < n {
@@ -24,11 +31,11 @@ fn fill_production(c: &[u16], w: &mut [u32], r: u16, f: usize, s: u32, n: u16)
 
 // Zeros from item n on.
 fn clear(c: &[u16], w: &mut [u32], n: usize)
-    requires { ⌜ (firstOf (now c) (productions (now c)) < n) × (n ≤ 704) × (704 ≤ length (now w)) × Filled (now c) (now w) n ⌝ }
-    ensures { λ _. ⌜ Filled (now (c .entry)) (now (w .exit)) 704 × Kept (now (w .entry)) 704 (now (w .exit)) ⌝ }
+    requires { ⌜ (firstOf (now c) (productions (now c)) < n) × (n ≤ itemLimit) × (itemLimit ≤ length (now w)) × Filled (now c) (now w) n ⌝ }
+    ensures { λ _. ⌜ Filled (now (c .entry)) (now (w .exit)) itemLimit × Kept (now (w .entry)) itemLimit (now (w .exit)) ⌝ }
 {
     let mut i = n;
-    while i < 704 {
+    while i < items::LIMIT {
         w[i] = 0;
         i += 1;
     }
@@ -36,8 +43,8 @@ fn clear(c: &[u16], w: &mut [u32], n: usize)
 
 // The symbol after the dot of each item, 0 where there is none.
 pub fn fill(c: &[u16], w: &mut [u32])
-    requires { ⌜ (formFault (now c) ≡ 0) × (704 ≤ length (now w)) ⌝ }
-    ensures { λ _. ⌜ Filled (now (c .entry)) (now (w .exit)) 704 × Kept (now (w .entry)) 704 (now (w .exit)) ⌝ }
+    requires { ⌜ (formFault (now c) ≡ 0) × (itemLimit ≤ length (now w)) ⌝ }
+    ensures { λ _. ⌜ Filled (now (c .entry)) (now (w .exit)) itemLimit × Kept (now (w .entry)) itemLimit (now (w .exit)) ⌝ }
 {
     let p = card::productions(c);
     let mut s: u32 = 0;
@@ -56,7 +63,7 @@ pub fn fill(c: &[u16], w: &mut [u32])
 
 // For each nonterminal T + j, in word j, the nonterminals that begin its productions.
 fn begun(c: &[u16], w: &[u32]) -> [u64; 60]
-    requires { ⌜ (formFault (now c) ≡ 0) × (704 ≤ length (now w)) × Filled (now c) (now w) 704 ⌝ }
+    requires { ⌜ (formFault (now c) ≡ 0) × (itemLimit ≤ length (now w)) × Filled (now c) (now w) itemLimit ⌝ }
     ensures { λ v. ⌜ Begun (now (c .entry)) v (productions (now (c .entry))) ⌝ }
 {
     let t = card::wider(card::terminals(c));
@@ -100,7 +107,7 @@ fn widen(b: [u64; 60], n: usize, k: usize) -> [u64; 60]
 
 // For each nonterminal T + j, in word j, the others that begin what it becomes.
 fn led(c: &[u16], w: &[u32]) -> [u64; 60]
-    requires { ⌜ (formFault (now c) ≡ 0) × (704 ≤ length (now w)) × Filled (now c) (now w) 704 ⌝ }
+    requires { ⌜ (formFault (now c) ≡ 0) × (itemLimit ≤ length (now w)) × Filled (now c) (now w) itemLimit ⌝ }
     ensures { λ v. ⌜ Led (now (c .entry)) v ⌝ }
 {
     let n = card::wide(card::nonterminals(c));
@@ -137,40 +144,40 @@ fn firsts(c: &[u16], b: u64) -> [u64; 11]
 
 // The closures of the nonterminals, in their slots.
 fn fill_closures(c: &[u16], w: &[u32], z: &mut [u64])
-    requires { ⌜ (formFault (now c) ≡ 0) × (704 ≤ length (now w)) × Filled (now c) (now w) 704 × (8192 ≤ length (now z)) ⌝ }
-    ensures { λ _. ⌜ Closures (now (c .entry)) (now (z .exit)) (nonterminals (now (c .entry))) × Kept (now (z .entry)) 3476 (now (z .exit)) ⌝ }
+    requires { ⌜ (formFault (now c) ≡ 0) × (itemLimit ≤ length (now w)) × Filled (now c) (now w) itemLimit × (wordsSize ≤ length (now z)) ⌝ }
+    ensures { λ _. ⌜ Closures (now (c .entry)) (now (z .exit)) (nonterminals (now (c .entry))) × Kept (now (z .entry)) (masksAt * setSize) (now (z .exit)) ⌝ }
 {
     let n = card::wide(card::nonterminals(c));
     let b = led(c, w);
     let mut j: usize = 0;
     while j < n {
         let r = firsts(c, b[j] | (1 << j));
-        items::store(z, (256 + j) * 11, r);
+        items::store(z, (CLOSURES + j) * items::SIZE, r);
         j += 1;
     }
 }
 
 // No item before any symbol.
 fn clear_masks(c: &[u16], z: &mut [u64])
-    requires { ⌜ (formFault (now c) ≡ 0) × (8192 ≤ length (now z)) ⌝ }
+    requires { ⌜ (formFault (now c) ≡ 0) × (wordsSize ≤ length (now z)) ⌝ }
     ensures { λ _. ⌜ Masked (now (c .entry)) (now (z .entry)) (now (z .exit)) 0 ⌝ }
 {
     let n = card::wide(card::terminals(c)) + card::wide(card::nonterminals(c));
     let mut x: usize = 0;
     while x < n {
-        items::store(z, (316 + x) * 11, items::empty());
+        items::store(z, (MASKS + x) * items::SIZE, items::empty());
         x += 1;
     }
 }
 
 // The items before each symbol, in its slot.
 fn fill_masks(c: &[u16], w: &[u32], z: &mut [u64])
-    requires { ⌜ (formFault (now c) ≡ 0) × (704 ≤ length (now w)) × Filled (now c) (now w) 704 × (8192 ≤ length (now z)) × Masks (now c) (now z) 0 ⌝ }
-    ensures { λ _. ⌜ Masked (now (c .entry)) (now (z .entry)) (now (z .exit)) 704 ⌝ }
+    requires { ⌜ (formFault (now c) ≡ 0) × (itemLimit ≤ length (now w)) × Filled (now c) (now w) itemLimit × (wordsSize ≤ length (now z)) × Masks (now c) (now z) 0 ⌝ }
+    ensures { λ _. ⌜ Masked (now (c .entry)) (now (z .entry)) (now (z .exit)) itemLimit ⌝ }
 {
     let mut i: usize = 0;
-    while i < 704 {
-        let at = (316 + card::wide32(w[i])) * 11;
+    while i < items::LIMIT {
+        let at = (MASKS + card::wide32(w[i])) * items::SIZE;
         let m = items::load(z, at);
         items::store(z, at, items::with(m, i));
         i += 1;
@@ -179,8 +186,8 @@ fn fill_masks(c: &[u16], w: &[u32], z: &mut [u64])
 
 // Closures and masks.
 pub fn prepare(c: &[u16], w: &[u32], z: &mut [u64])
-    requires { ⌜ (formFault (now c) ≡ 0) × (704 ≤ length (now w)) × Filled (now c) (now w) 704 × (8192 ≤ length (now z)) ⌝ }
-    ensures { λ _. ⌜ Prepared (now (c .entry)) (now (z .exit)) × Kept (now (z .entry)) 4840 (now (z .exit)) ⌝ }
+    requires { ⌜ (formFault (now c) ≡ 0) × (itemLimit ≤ length (now w)) × Filled (now c) (now w) itemLimit × (wordsSize ≤ length (now z)) ⌝ }
+    ensures { λ _. ⌜ Prepared (now (c .entry)) (now (z .exit)) × Kept (now (z .entry)) slotsEnd (now (z .exit)) ⌝ }
 {
     fill_closures(c, w, z);
     clear_masks(c, z);
@@ -189,16 +196,19 @@ pub fn prepare(c: &[u16], w: &[u32], z: &mut [u64])
 
 // The closure of s, by those of the nonterminals after its dots.
 pub fn closure(c: &[u16], w: &[u32], z: &[u64], s: [u64; 11]) -> [u64; 11]
-    requires { ⌜ (formFault (now c) ≡ 0) × (704 ≤ length (now w)) × Filled (now c) (now w) 704 × Prepared (now c) (now z) ⌝ }
+    requires { ⌜ (formFault (now c) ≡ 0) × (itemLimit ≤ length (now w)) × Filled (now c) (now w) itemLimit × Prepared (now c) (now z) ⌝ }
     ensures { λ v. ⌜ Closed (now (c .entry)) s v ⌝ }
 {
     let t = card::wider(card::terminals(c));
     let mut r = s;
     let mut i = items::next(s, 0);
-    while i < 704 {
+    while i < items::LIMIT {
         let x = w[i];
         if t <= x {
-            let u = items::join(r, items::load(z, (256 + card::wide32(x - t)) * 11));
+            let u = items::join(
+                r,
+                items::load(z, (CLOSURES + card::wide32(x - t)) * items::SIZE),
+            );
             r = u;
         }
         i = items::next(s, i + 1);
@@ -208,12 +218,12 @@ pub fn closure(c: &[u16], w: &[u32], z: &[u64], s: [u64; 11]) -> [u64; 11]
 
 // The symbols after the dots of s, 0 among them where a dot stands last: a set of numbers like s.
 pub fn afters(c: &[u16], w: &[u32], s: [u64; 11]) -> [u64; 11]
-    requires { ⌜ (formFault (now c) ≡ 0) × (704 ≤ length (now w)) × Filled (now c) (now w) 704 ⌝ }
-    ensures { λ v. ⌜ Afters (now (c .entry)) s 704 v ⌝ }
+    requires { ⌜ (formFault (now c) ≡ 0) × (itemLimit ≤ length (now w)) × Filled (now c) (now w) itemLimit ⌝ }
+    ensures { λ v. ⌜ Afters (now (c .entry)) s itemLimit v ⌝ }
 {
     let mut a = [0u64; 11];
     let mut i = items::next(s, 0);
-    while i < 704 {
+    while i < items::LIMIT {
         let x = card::wide32(w[i]);
         a[x / 64] = a[x / 64] | (1 << (x % 64));
         i = items::next(s, i + 1);

@@ -8,11 +8,14 @@ use lib.Bits.{bitOr}
 use lib.ListN.{length, set, length-set}
 use lib.Seq.{getD-set-same, getD-set-other}
 use Rattle.sets.specs.Bit.{Has}
+use Rattle.areas.specs.Areas.{wordsSize}
+use Rattle.transitions.specs.Places.{transitionLimit, numbersAt, stackAt, shiftsAt}
+use Rattle.transitions.proofs.WriteLaws.{eq-or}
 use Rattle.digraph.specs.Completion.{Completed, at}
 use Rattle.digraph.specs.Completion.Reaches.{here}
 use Rattle.digraph.specs.Walk.{Room, Kept, Entered, Visited, Scanned, Popped, Finished, Cleared, None, unvisited, numIn, stkIn, Inv, Frame, Ended, Scan, InvIn, ScanIn, FrameIn}
 use Rattle.digraph.proofs.Theory as theory
-use Rattle.digraph.proofs.Theory.{eq-or, below-suc, frame-refl, frame-trans}
+use Rattle.digraph.proofs.Theory.{below-suc, frame-refl, frame-trans}
 use Rattle.digraph.proofs.Counts.{unvisited-le, unvisited-mono, unvisited-less}
 
 -- ---- two stores: at i, then at j
@@ -30,16 +33,16 @@ module _ (z : List ℕ) (i a j b : ℕ) (z′ : List ℕ) (stored : z′ ≡ set
   stored-other v ni nj = ap (λ (l : List ℕ). at l v) stored ∙ getD-set-other (set z i a) j v b 0 nj ∙ getD-set-other z i v a 0 ni
 
 -- a store to a set leaves the numbers
-pub num-set : (z : List ℕ) (x a v : ℕ) → x < 2048 → numIn (set z x a) v ≡ numIn z v
-num-set z x a v h = getD-set-other z x (2048 + v) a 0 (λ e. omega arith)
+pub num-set : (z : List ℕ) (x a v : ℕ) → x < transitionLimit → numIn (set z x a) v ≡ numIn z v
+num-set z x a v h = getD-set-other z x (numbersAt + v) a 0 (λ e. omega arith)
 
 -- one number more is cleared
-pub clear-more : (z0 z : List ℕ) (i : ℕ) → i < 2048 → 8192 ≤ length z → Cleared i z0 z → Cleared (i + 1) z0 (set z (2048 + i) 0)
+pub clear-more : (z0 z : List ℕ) (i : ℕ) → i < transitionLimit → wordsSize ≤ length z → Cleared i z0 z → Cleared (i + 1) z0 (set z (numbersAt + i) 0)
 clear-more z0 z i small long C = record {
-  numbers = λ v h. ⊎-elim (λ l. getD-set-other z (2048 + i) (2048 + v) 0 0 (λ e. omega arith) ∙ C .numbers v l)
-      (λ q. ap (numIn (set z (2048 + i) 0)) q ∙ getD-set-same z (2048 + i) 0 0 (omega arith)) (below-suc h);
-  sets = λ v h. getD-set-other z (2048 + i) v 0 0 (λ e. omega arith) ∙ C .sets v h;
-  rest = λ j h. getD-set-other z (2048 + i) j 0 0 (λ e. omega arith) ∙ C .rest j h;
+  numbers = λ v h. ⊎-elim (λ l. getD-set-other z (numbersAt + i) (numbersAt + v) 0 0 (λ e. omega arith) ∙ C .numbers v l)
+      (λ q. ap (numIn (set z (numbersAt + i) 0)) q ∙ getD-set-same z (numbersAt + i) 0 0 (omega arith)) (below-suc h);
+  sets = λ v h. getD-set-other z (numbersAt + i) v 0 0 (λ e. omega arith) ∙ C .sets v h;
+  rest = λ j h. getD-set-other z (numbersAt + i) j 0 0 (λ e. omega arith) ∙ C .rest j h;
 }
 
 pub kept-same : {k : ℕ} {z : List ℕ} {d : ℕ} → Room k z d → Kept k z d z d
@@ -47,14 +50,14 @@ kept-same R = record { room = R; grows = omega arith; visited = λ v h e. e; res
 
 -- ---- one position more is popped
 module _ (k d depth s : ℕ) (z0 z : List ℕ) (nodes : (p : ℕ) → p < depth → stkIn z0 p < k) (P : Popped k d depth s z0 z) (pos : 0 < d) (le : d ≤ depth)
-    (small : k ≤ 2048) (long : 8192 ≤ length z) where
+    (small : k ≤ transitionLimit) (long : wordsSize ≤ length z) where
   pop-read : stkIn z (d - 1) ≡ stkIn z0 (d - 1)
-  pop-read = P .rest (4096 + (d - 1)) (omega arith)
+  pop-read = P .rest (stackAt + (d - 1)) (omega arith)
 
   pub pop-node : (v : ℕ) → v ≡ stkIn z (d - 1) → v < k
   pop-node v e = omega (arith, nodes (d - 1) (omega arith), pop-read)
 
-  module _ (v : ℕ) (e : v ≡ stkIn z (d - 1)) (z′ : List ℕ) (stored : z′ ≡ set (set z (2048 + v) 65535) v s) where
+  module _ (v : ℕ) (e : v ≡ stkIn z (d - 1)) (z′ : List ℕ) (stored : z′ ≡ set (set z (numbersAt + v) 65535) v s) where
     vk : v < k
     vk = pop-node v e
 
@@ -62,16 +65,16 @@ module _ (k d depth s : ℕ) (z0 z : List ℕ) (nodes : (p : ℕ) → p < depth 
     last = e ∙ pop-read
 
     gone-num : numIn z′ v ≡ 65535
-    gone-num = stored-first z (2048 + v) 65535 v s z′ stored (omega (arith, vk)) (λ q. omega arith)
+    gone-num = stored-first z (numbersAt + v) 65535 v s z′ stored (omega (arith, vk)) (λ q. omega arith)
 
     gone-set : at z′ v ≡ s
-    gone-set = stored-last z (2048 + v) 65535 v s z′ stored (omega (arith, vk))
+    gone-set = stored-last z (numbersAt + v) 65535 v s z′ stored (omega (arith, vk))
 
     else-num : (u : ℕ) → u < k → (u ≡ v → ⊥) → numIn z′ u ≡ numIn z u
-    else-num u h ne = stored-other z (2048 + v) 65535 v s z′ stored (2048 + u) (λ q. ne (omega arith)) (λ q. omega (arith, vk))
+    else-num u h ne = stored-other z (numbersAt + v) 65535 v s z′ stored (numbersAt + u) (λ q. ne (omega arith)) (λ q. omega (arith, vk))
 
     else-set : (u : ℕ) → u < k → (u ≡ v → ⊥) → at z′ u ≡ at z u
-    else-set u h ne = stored-other z (2048 + v) 65535 v s z′ stored u (λ q. omega arith) ne
+    else-set u h ne = stored-other z (numbersAt + v) 65535 v s z′ stored u (λ q. omega arith) ne
 
     pub pop-more : Popped k (d - 1) depth s z0 z′
     pop-more = record {
@@ -85,7 +88,7 @@ module _ (k d depth s : ℕ) (z0 z : List ℕ) (nodes : (p : ℕ) → p < depth 
           let old = P .kept u h (λ p g. ne p (omega arith)) in
           (else-num u h q ∙ old .0, else-set u h q ∙ old .1);
       visited = λ u h y. ⊎-elim (λ q. absurd (omega (arith, gone-num, ap (numIn z′) q))) (λ q. P .visited u h (sym (else-num u h q) ∙ y)) (eq-or u v);
-      rest = λ i h. stored-other z (2048 + v) 65535 v s z′ stored i (λ q. omega (arith, vk)) (λ q. omega (arith, vk)) ∙ P .rest i h;
+      rest = λ i h. stored-other z (numbersAt + v) 65535 v s z′ stored i (λ q. omega (arith, vk)) (λ q. omega (arith, vk)) ∙ P .rest i h;
     }
 
 -- ---- a node is entered: a push, a scan, and its end
@@ -93,24 +96,24 @@ module _ (k : ℕ) (z : List ℕ) (d x : ℕ) (R : Room k z d) (xk : x < k) (x0 
   pub fits : d < k
   fits = omega (arith, R .deep, unvisited-less (numIn z) (λ _. 1) k x (λ v h e. absurd (omega arith)) xk x0 (λ e. omega arith))
 
-  module _ (z1 : List ℕ) (stored : z1 ≡ set (set z (4096 + d) x) (2048 + x) (d + 1)) where
+  module _ (z1 : List ℕ) (stored : z1 ≡ set (set z (stackAt + d) x) (numbersAt + x) (d + 1)) where
     num-x : numIn z1 x ≡ d + 1
-    num-x = stored-last z (4096 + d) x (2048 + x) (d + 1) z1 stored (omega (arith, R .small, R .long))
+    num-x = stored-last z (stackAt + d) x (numbersAt + x) (d + 1) z1 stored (omega (arith, R .small, R .long))
 
     num-o : (v : ℕ) → v < k → (v ≡ x → ⊥) → numIn z1 v ≡ numIn z v
-    num-o v h ne = stored-other z (4096 + d) x (2048 + x) (d + 1) z1 stored (2048 + v) (λ q. omega (arith, R .small)) (λ q. ne (omega arith))
+    num-o v h ne = stored-other z (stackAt + d) x (numbersAt + x) (d + 1) z1 stored (numbersAt + v) (λ q. omega (arith, R .small)) (λ q. ne (omega arith))
 
     stk-d : stkIn z1 d ≡ x
-    stk-d = stored-first z (4096 + d) x (2048 + x) (d + 1) z1 stored (omega (arith, R .small, R .long, fits)) (λ q. omega (arith, R .small))
+    stk-d = stored-first z (stackAt + d) x (numbersAt + x) (d + 1) z1 stored (omega (arith, R .small, R .long, fits)) (λ q. omega (arith, R .small))
 
     stk-o : (p : ℕ) → p < d → stkIn z1 p ≡ stkIn z p
-    stk-o p h = stored-other z (4096 + d) x (2048 + x) (d + 1) z1 stored (4096 + p) (λ q. omega arith) (λ q. omega (arith, R .small))
+    stk-o p h = stored-other z (stackAt + d) x (numbersAt + x) (d + 1) z1 stored (stackAt + p) (λ q. omega arith) (λ q. omega (arith, R .small))
 
     sets-same : (v : ℕ) → v < k → at z1 v ≡ at z v
-    sets-same v h = stored-other z (4096 + d) x (2048 + x) (d + 1) z1 stored v (λ q. omega (arith, R .small)) (λ q. omega (arith, R .small))
+    sets-same v h = stored-other z (stackAt + d) x (numbersAt + x) (d + 1) z1 stored v (λ q. omega (arith, R .small)) (λ q. omega (arith, R .small))
 
-    push-rest : (i : ℕ) → 6144 ≤ i → at z1 i ≡ at z i
-    push-rest i h = stored-other z (4096 + d) x (2048 + x) (d + 1) z1 stored i (λ q. omega (arith, R .small, fits)) (λ q. omega (arith, R .small))
+    push-rest : (i : ℕ) → shiftsAt ≤ i → at z1 i ≡ at z i
+    push-rest i h = stored-other z (stackAt + d) x (numbersAt + x) (d + 1) z1 stored i (λ q. omega (arith, R .small, fits)) (λ q. omega (arith, R .small))
 
     push-visited : (v : ℕ) → v < k → numIn z1 v ≡ 0 → numIn z v ≡ 0
     push-visited v h e = ⊎-elim (λ q. ap (numIn z) q ∙ x0) (λ q. sym (num-o v h q) ∙ e) (eq-or v x)
@@ -121,7 +124,7 @@ module _ (k : ℕ) (z : List ℕ) (d x : ℕ) (R : Room k z d) (xk : x < k) (x0 
     pub push-room : Room k z1 (d + 1)
     push-room = record {
       small = R .small;
-      long = omega (arith, stored-length z (4096 + d) x (2048 + x) (d + 1) z1 stored, R .long);
+      long = omega (arith, stored-length z (stackAt + d) x (numbersAt + x) (d + 1) z1 stored, R .long);
       deep = omega (arith, R .deep, push-less);
       node = λ p h. ⊎-elim (λ l. omega (arith, stk-o p l, R .node p l)) (λ q. omega (arith, ap (stkIn z1) q, stk-d)) (below-suc h);
     }
@@ -157,7 +160,7 @@ module _ (k : ℕ) (z : List ℕ) (d x : ℕ) (R : Room k z d) (xk : x < k) (x0 
       -- all from x on is popped
       module _ (z3 : List ℕ) (l3 : length z3 ≡ length z2) (nx : numIn z2 x ≡ d + 1) (P : Popped k d d2 (at z2 x) z2 z3) where
         same-stk : (p : ℕ) → stkIn z3 p ≡ stkIn z2 p
-        same-stk p = P .rest (4096 + p) (omega arith)
+        same-stk p = P .rest (stackAt + p) (omega arith)
 
         popped : Entered E k z d x z3 d
         popped = record {
@@ -174,7 +177,7 @@ module _ (k : ℕ) (z : List ℕ) (d x : ℕ) (R : Room k z d) (xk : x < k) (x0 
           };
           marked = λ e. x-seen (P .visited x xk e);
           means = λ start I.
-              let low : d2 ≤ 2048 = omega (arith, R .small, S .kept .room .deep) in
+              let low : d2 ≤ transitionLimit = omega (arith, R .small, S .kept .room .deep) in
               subst
               (λ (s : ℕ → ℕ). Inv E k start (numIn z3) s (at z3) d × Frame (numIn z) (stkIn z) (at z) (numIn z3) s (at z3) d × Ended E start (numIn z3) s (at z3) d d x)
               (sym (fun-ext same-stk)) (
@@ -224,27 +227,27 @@ module _ (E : ℕ → ℕ → Type 0) (k : ℕ) (z : List ℕ) (d x : ℕ) where
 
     -- an edge to y more: y is visited, and joined to x
     module _ (y : ℕ) (xk : x < k) (yk : y < k) (xy : E x y) (left′ : ℕ → Type 0) (next : (w : ℕ) → left w → (w ≡ y) ⊎ left′ w) (z2 : List ℕ) (d2 : ℕ) (U : Visited E k z1 d1 y z2 d2)
-        (z3 : List ℕ) (stored : z3 ≡ set (set z2 x (bitOr (at z2 x) (at z2 y))) (2048 + x) (min (numIn z2 x) (numIn z2 y))) where
+        (z3 : List ℕ) (stored : z3 ≡ set (set z2 x (bitOr (at z2 x) (at z2 y))) (numbersAt + x) (min (numIn z2 x) (numIn z2 y))) where
       room2 : Room k z2 d2
       room2 = U .kept .room
 
       nx : numIn z3 x ≡ min (numIn z2 x) (numIn z2 y)
-      nx = stored-last z2 x (bitOr (at z2 x) (at z2 y)) (2048 + x) (min (numIn z2 x) (numIn z2 y)) z3 stored (omega (arith, room2 .small, room2 .long))
+      nx = stored-last z2 x (bitOr (at z2 x) (at z2 y)) (numbersAt + x) (min (numIn z2 x) (numIn z2 y)) z3 stored (omega (arith, room2 .small, room2 .long))
 
       no : (v : ℕ) → v < k → (v ≡ x → ⊥) → numIn z3 v ≡ numIn z2 v
-      no v h ne = stored-other z2 x (bitOr (at z2 x) (at z2 y)) (2048 + x) (min (numIn z2 x) (numIn z2 y)) z3 stored (2048 + v) (λ q. omega (arith, room2 .small)) (λ q. ne (omega arith))
+      no v h ne = stored-other z2 x (bitOr (at z2 x) (at z2 y)) (numbersAt + x) (min (numIn z2 x) (numIn z2 y)) z3 stored (numbersAt + v) (λ q. omega (arith, room2 .small)) (λ q. ne (omega arith))
 
       fx : at z3 x ≡ bitOr (at z2 x) (at z2 y)
-      fx = stored-first z2 x (bitOr (at z2 x) (at z2 y)) (2048 + x) (min (numIn z2 x) (numIn z2 y)) z3 stored (omega (arith, room2 .small, room2 .long)) (λ q. omega arith)
+      fx = stored-first z2 x (bitOr (at z2 x) (at z2 y)) (numbersAt + x) (min (numIn z2 x) (numIn z2 y)) z3 stored (omega (arith, room2 .small, room2 .long)) (λ q. omega arith)
 
       fo : (v : ℕ) → v < k → (v ≡ x → ⊥) → at z3 v ≡ at z2 v
-      fo v h ne = stored-other z2 x (bitOr (at z2 x) (at z2 y)) (2048 + x) (min (numIn z2 x) (numIn z2 y)) z3 stored v ne (λ q. omega (arith, room2 .small))
+      fo v h ne = stored-other z2 x (bitOr (at z2 x) (at z2 y)) (numbersAt + x) (min (numIn z2 x) (numIn z2 y)) z3 stored v ne (λ q. omega (arith, room2 .small))
 
-      behind : (i : ℕ) → 4096 ≤ i → at z3 i ≡ at z2 i
-      behind i h = stored-other z2 x (bitOr (at z2 x) (at z2 y)) (2048 + x) (min (numIn z2 x) (numIn z2 y)) z3 stored i (λ q. omega (arith, room2 .small)) (λ q. omega (arith, room2 .small))
+      behind : (i : ℕ) → stackAt ≤ i → at z3 i ≡ at z2 i
+      behind i h = stored-other z2 x (bitOr (at z2 x) (at z2 y)) (numbersAt + x) (min (numIn z2 x) (numIn z2 y)) z3 stored i (λ q. omega (arith, room2 .small)) (λ q. omega (arith, room2 .small))
 
       same : (p : ℕ) → stkIn z3 p ≡ stkIn z2 p
-      same p = behind (4096 + p) (omega arith)
+      same p = behind (stackAt + p) (omega arith)
 
       join-visited : (v : ℕ) → v < k → numIn z3 v ≡ 0 → numIn z2 v ≡ 0
       join-visited v h e = ⊎-elim (λ q. let y0 : numIn z2 y ≡ 0 → ⊥ = U .marked in let m : numIn z3 x ≡ 0 = ap (numIn z3) (sym q) ∙ e in ap (numIn z2) q ∙ omega (arith, nx, y0)) (λ q. sym (no v h q) ∙ e) (eq-or v x)
@@ -254,7 +257,7 @@ module _ (E : ℕ → ℕ → Type 0) (k : ℕ) (z : List ℕ) (d x : ℕ) where
         kept = record {
           room = record {
             small = room2 .small;
-            long = omega (arith, stored-length z2 x (bitOr (at z2 x) (at z2 y)) (2048 + x) (min (numIn z2 x) (numIn z2 y)) z3 stored, room2 .long);
+            long = omega (arith, stored-length z2 x (bitOr (at z2 x) (at z2 y)) (numbersAt + x) (min (numIn z2 x) (numIn z2 y)) z3 stored, room2 .long);
             deep = omega (arith, room2 .deep, unvisited-mono (numIn z2) (numIn z3) k join-visited);
             node = λ p h. omega (arith, same p, room2 .node p h);
           };
@@ -265,7 +268,7 @@ module _ (E : ℕ → ℕ → Type 0) (k : ℕ) (z : List ℕ) (d x : ℕ) where
         means = λ start b s.
             let q = S .means start b s in
             let r = U .means start (q .0 .inv) in
-            let low : d2 ≤ 2048 = omega (arith, room2 .small, room2 .deep) in
+            let low : d2 ≤ transitionLimit = omega (arith, room2 .small, room2 .deep) in
             subst
             (λ (f : ℕ → ℕ). Scan E k start (numIn z3) f (at z3) b d2 x left′ × Frame (numIn z) (stkIn z) (at z) (numIn z3) f (at z3) b)
             (sym (fun-ext same)) (
@@ -278,11 +281,11 @@ module _ (E : ℕ → ℕ → Type 0) (k : ℕ) (z : List ℕ) (d x : ℕ) where
       }
 
 -- ---- the walk: from an empty stack to an empty stack
-pub empty-room : (k : ℕ) (z : List ℕ) → k ≤ 2048 → 8192 ≤ length z → Room k z 0
+pub empty-room : (k : ℕ) (z : List ℕ) → k ≤ transitionLimit → wordsSize ≤ length z → Room k z 0
 empty-room k z small long = record { small = small; long = long; deep = omega (arith, unvisited-le (numIn z) k); node = λ p h. absurd (omega arith) }
 
 module _ (E : ℕ → ℕ → Type 0) (k : ℕ) (z : List ℕ) where
-  pub cleared : (z0 : List ℕ) → k ≤ 2048 → Cleared k z0 z → InvIn E k (at z0) z 0
+  pub cleared : (z0 : List ℕ) → k ≤ transitionLimit → Cleared k z0 z → InvIn E k (at z0) z 0
   cleared z0 small C = record {
     node = λ p h. absurd (omega arith);
     low-pos = λ p h. absurd (omega arith);

@@ -2,21 +2,15 @@
 use mathlib.Core.Path.{_≡_, refl, sym, ap, _∙_, subst, subst₂}
 use mathlib.Core.Logic.{_⊎_, inl, inr, ⊎-elim}
 use Prim.Native.Nat.{ℕ, zero, suc, _+_, _-_, _≤_, _<_, min}
-use native.Mathlib.Decide.{ℕ-discrete}
 use native.Mathlib.Omega.{arith}
 use lib.Bits.{bitOr}
 use Rattle.sets.specs.Bit.{Has}
 use Rattle.sets.proofs.HasLaws.{lt-or-ge, has-or, or-has-l, or-has-r}
+use Rattle.transitions.specs.Places.{transitionLimit}
+use Rattle.transitions.proofs.WriteLaws.{eq-or}
 use Rattle.digraph.specs.Completion.{Reaches, Join}
 use Rattle.digraph.specs.Completion.Reaches.{here, step}
 use Rattle.digraph.specs.Walk.{Inv, Covered, Segment, None, Frame, Scan, Ended, Met}
-
-pub eq-or : (a b : ℕ) → (a ≡ b) ⊎ (a ≡ b → ⊥)
-eq-or a b = go (ℕ-discrete a b)
-  where
-    go : Dec (a ≡ b) → (a ≡ b) ⊎ (a ≡ b → ⊥)
-    go (yes h) = inl h
-    go (no h) = inr h
 
 -- below d + 1 is below d, or is d
 pub below-suc : {p d : ℕ} → p < d + 1 → (p < d) ⊎ (p ≡ d)
@@ -98,7 +92,7 @@ module _ (E : ℕ → ℕ → Type 0) (k : ℕ) (start : ℕ → ℕ) where
   }
 
   -- ---- a node is pushed: all its edges are left
-  module _ (num stk F num′ stk′ F′ : ℕ → ℕ) (d x : ℕ) (I : Inv E k start num stk F d) (xk : x < k) (x0 : num x ≡ 0) (small : d < 2048)
+  module _ (num stk F num′ stk′ F′ : ℕ → ℕ) (d x : ℕ) (I : Inv E k start num stk F d) (xk : x < k) (x0 : num x ≡ 0) (small : d < transitionLimit)
       (nx : num′ x ≡ d + 1) (no : (v : ℕ) → v < k → (v ≡ x → ⊥) → num′ v ≡ num v) (sd : stk′ d ≡ x) (so : (p : ℕ) → p < d → stk′ p ≡ stk p)
       (fs : (v : ℕ) → v < k → F′ v ≡ F v) where
     fresh : (p : ℕ) → p < d → stk p ≡ x → ⊥
@@ -146,7 +140,7 @@ module _ (E : ℕ → ℕ → Type 0) (k : ℕ) (start : ℕ → ℕ) where
   -- ---- an edge from x to y is taken: x, at position b, takes over y's set and number
   module _ (num stk F num1 stk1 F1 num2 F2 : ℕ → ℕ) (b d d1 x y : ℕ) (left left′ : ℕ → Type 0) (S : Scan E k start num stk F b d x left)
       (I : Inv E k start num1 stk1 F1 d1) (fr : Frame num stk F num1 stk1 F1 d) (met : Met E start num1 stk1 F1 d d1 y)
-      (yk : y < k) (xy : E x y) (next : (w : ℕ) → left w → (w ≡ y) ⊎ left′ w) (small : d1 ≤ 2048) (y0 : num1 y ≡ 0 → ⊥)
+      (yk : y < k) (xy : E x y) (next : (w : ℕ) → left w → (w ≡ y) ⊎ left′ w) (small : d1 ≤ transitionLimit) (y0 : num1 y ≡ 0 → ⊥)
       (nx : num2 x ≡ min (num1 x) (num1 y)) (no : (v : ℕ) → v < k → (v ≡ x → ⊥) → num2 v ≡ num1 v)
       (fx : F2 x ≡ bitOr (F1 x) (F1 y)) (fo : (v : ℕ) → v < k → (v ≡ x → ⊥) → F2 v ≡ F1 v) where
     dd : d ≤ d1
@@ -277,7 +271,7 @@ module _ (E : ℕ → ℕ → Type 0) (k : ℕ) (start : ℕ → ℕ) where
         )
 
     -- x is the lowest of its cycles: all from b on is complete
-    module _ (nx : num x ≡ b + 1) (small : d ≤ 2048) where
+    module _ (nx : num x ≡ b + 1) (small : d ≤ transitionLimit) where
       to-x : (f p : ℕ) → p < f → b ≤ p → p < d → Reaches E (stk p) x
       to-x zero p h g i = absurd (omega arith)
       to-x (suc f) p h g i =

@@ -5,6 +5,7 @@ use mathlib.Core.List.{List}
 use Prim.Native.Nat.{ℕ, _≤_, _<_}
 use lib.ListN.{length, getD}
 use Rattle.sets.specs.Bit.{Has}
+use Rattle.transitions.specs.Places.{shiftsAt}
 
 -- v reaches u along E, in no step or more
 pub data Reaches (E : ℕ → ℕ → Type 0) : ℕ → ℕ → Type 0 where
@@ -24,8 +25,8 @@ pub record Completed (E : ℕ → ℕ → Type 0) (k : ℕ) (F F′ : ℕ → �
 abbrev pub at : List ℕ → ℕ → ℕ
 at z i = getD z i 0
 
--- the walk made z′ of z: the sets at the places 0, .., k - 1 are completed; from 6144 on nothing has changed
+-- the walk made z′ of z: the sets at the places 0, .., k - 1 are completed; from shiftsAt on nothing has changed
 pub record Walked (E : ℕ → ℕ → Type 0) (k : ℕ) (z z′ : List ℕ) : Type 0 where
   pub sets : Completed E k (at z) (at z′)
-  pub rest : (i : ℕ) → 6144 ≤ i → at z′ i ≡ at z i
+  pub rest : (i : ℕ) → shiftsAt ≤ i → at z′ i ≡ at z i
   pub size : length z′ ≡ length z

@@ -9,6 +9,8 @@ use Prim.Native.Nat.{ℕ, _+_, _-_, _≤_, _<_}
 use lib.Dec.{eqb}
 use lib.ListN.{length}
 use Rattle.sets.specs.Bit.{Has, count}
+use Rattle.areas.specs.Areas.{wordsSize}
+use Rattle.transitions.specs.Places.{transitionLimit, numbersAt, stackAt, shiftsAt}
 use Rattle.digraph.specs.Completion.{Reaches, Join, at}
 
 -- how many of the nodes 0, .., k - 1 are not visited
@@ -65,18 +67,18 @@ Ended E start num stk F b d y =
 abbrev pub Met : (ℕ → ℕ → Type 0) → (ℕ → ℕ) → (ℕ → ℕ) → (ℕ → ℕ) → (ℕ → ℕ) → ℕ → ℕ → ℕ → Type 0
 Met E start num stk F b d y = Ended E start num stk F b d y ⊎ ((q : ℕ) × (q < b) × (stk q ≡ y) × (d ≡ b))
 
--- ---- the state in the area: the set of node v at place v, its number at 2048 + v, position p of the stack at 4096 + p
+-- ---- the state in the area: the set of node v at place v, its number at numbersAt + v, position p of the stack at stackAt + p
 
 abbrev pub numIn : List ℕ → ℕ → ℕ
-numIn z v = at z (2048 + v)
+numIn z v = at z (numbersAt + v)
 
 abbrev pub stkIn : List ℕ → ℕ → ℕ
-stkIn z p = at z (4096 + p)
+stkIn z p = at z (stackAt + p)
 
 -- the area is long enough, and the stack has room for each node not visited
 pub record Room (k : ℕ) (z : List ℕ) (d : ℕ) : Type 0 where
-  pub small : k ≤ 2048
-  pub long : 8192 ≤ length z
+  pub small : k ≤ transitionLimit
+  pub long : wordsSize ≤ length z
   pub deep : d + unvisited (numIn z) k ≤ k
   pub node : (p : ℕ) → p < d → stkIn z p < k
 
@@ -85,7 +87,7 @@ pub record Kept (k : ℕ) (z : List ℕ) (d : ℕ) (z′ : List ℕ) (d′ : ℕ
   pub room : Room k z′ d′
   pub grows : d ≤ d′
   pub visited : (v : ℕ) → v < k → numIn z′ v ≡ 0 → numIn z v ≡ 0
-  pub rest : (i : ℕ) → 6144 ≤ i → at z′ i ≡ at z i
+  pub rest : (i : ℕ) → shiftsAt ≤ i → at z′ i ≡ at z i
 
 abbrev pub InvIn : (ℕ → ℕ → Type 0) → ℕ → (ℕ → ℕ) → List ℕ → ℕ → Type 0
 InvIn E k start z d = Inv E k start (numIn z) (stkIn z) (at z) d
@@ -120,7 +122,7 @@ pub record Popped (k base depth s : ℕ) (z z′ : List ℕ) : Type 0 where
   pub gone : (p : ℕ) → base ≤ p → p < depth → (numIn z′ (stkIn z p) ≡ 65535) × (at z′ (stkIn z p) ≡ s)
   pub kept : (v : ℕ) → v < k → ((p : ℕ) → base ≤ p → p < depth → stkIn z p ≡ v → ⊥) → (numIn z′ v ≡ numIn z v) × (at z′ v ≡ at z v)
   pub visited : (v : ℕ) → v < k → numIn z′ v ≡ 0 → numIn z v ≡ 0
-  pub rest : (i : ℕ) → 4096 ≤ i → at z′ i ≡ at z i
+  pub rest : (i : ℕ) → stackAt ≤ i → at z′ i ≡ at z i
 
 -- x was scanned: where its low number is its own, all from base on was popped; else nothing was done
 abbrev pub Finished : ℕ → ℕ → ℕ → ℕ → List ℕ → List ℕ → ℕ → Type 0
@@ -131,5 +133,5 @@ Finished k x base depth z z′ r =
 -- no node is visited; all but the numbers is as it was
 pub record Cleared (k : ℕ) (z z′ : List ℕ) : Type 0 where
   pub numbers : (v : ℕ) → v < k → numIn z′ v ≡ 0
-  pub sets : (v : ℕ) → v < 2048 → at z′ v ≡ at z v
-  pub rest : (i : ℕ) → 4096 ≤ i → at z′ i ≡ at z i
+  pub sets : (v : ℕ) → v < transitionLimit → at z′ v ≡ at z v
+  pub rest : (i : ℕ) → stackAt ≤ i → at z′ i ≡ at z i

@@ -1,45 +1,47 @@
 -- From what the phases found to the maker's contract.
 use mathlib.Core.Path.{_≡_, refl, sym, ap, _∙_}
-use mathlib.Core.Logic.{_≢_}
 use mathlib.Core.Bool.{true, false}
 use mathlib.Core.List.{List, [], _∷_, _++_}
 use Prim.Native.Nat.{ℕ, _+_, _-_, _≤_, _<_}
 use native.Mathlib.Omega.{arith}
 use lib.ListN.{length, getD, drop, replicate, length-drop}
 use lib.Seq.{ext-getD, getD-drop}
-use lib.Dec.{ltb}
 use borrow.Author.Tests.{lt-ltb}
 use Rattle.sets.specs.Lists.{covered}
 use Rattle.sets.specs.Bit.{bit, Tells}
 use Rattle.grammar.specs.Grammar.{Derives}
-use Rattle.grammar.specs.Useful.{Useful, Nonterminal, LowestUseless}
+use Rattle.grammar.specs.Useful.{LowestUseless}
 use Rattle.grammar.specs.Card.{terminals, nonterminals, productions, leftOf, lengthOf, formFault, grammarOf}
-use Rattle.grammar.proofs.CardLaws.{well-formed, right-length}
+use Rattle.grammar.proofs.CardLaws.{right-length}
 use Rattle.tables.specs.Layout.{build}
 use Rattle.tables.proofs.LayoutLaws.{built-sizes, built-long, built-left, built-length, built-cell}
-use Rattle.lr.specs.States.{States, MoreStates, nonterminalTransitions}
+use Rattle.lr.specs.States.{States, MoreStates}
 use Rattle.lr.specs.Cells as lr
-use Rattle.lalr.specs.Generator.{made, refused, uselessAt, conflict, writes, tableLeft, tableOf, cardAnswer, generated}
-use Rattle.lalr.specs.Generator as definition
-use Rattle.lalr.specs.Meaning.{AllUseful, Sized, Judged, useless, many, wide, clash, fine}
-use Rattle.lalr.proofs.Finish.{Room, judged, by-card, left-alone, all-covered, table-found}
+use Rattle.lalr.specs.Answer.{made, refused, uselessAt, conflict, numbersOf}
+use Rattle.lalr.specs.Answer as definition
+use Rattle.lalr.specs.ComputedAnswer.{tableOf}
+use Rattle.lalr.specs.ComputedGenerator.{writes, tableLeft, generated}
+use Rattle.lalr.specs.Meaning.{AllUseful, Sized, useless, many, wide, clash, fine}
+use Rattle.lalr.specs.Demand2.{Room}
+use Rattle.lalr.proofs.Finish.{judged, left-alone, all-covered, table-found}
 use Rattle.lalr.proofs.Main.{card-answer}
 use Rattle.states.specs.States.{transition}
+use Rattle.transitions.specs.Places.{transitionLimit}
 use Rattle.transitions.specs.Next.{nextOf, Numbered, transitionCount}
 use Rattle.transitions.specs.Data.{Data}
 use Rattle.tables.specs.Conflicts.{Conflict}
+use Rattle.areas.specs.Areas.{tableSize, wordsSize, halvesSize}
 use Rattle.cells.specs.Actions.{IsCell}
-use Rattle.cells.specs.Areas.{Tabled}
 use Rattle.bridge.specs.Premises.{Stated, Followed}
 use Rattle.bridge.specs.Actions.{Acts}
 use Rattle.bridge.proofs.Numbering.{numbered}
 use Rattle.bridge.proofs.Counting.{transition-count}
 use Rattle.bridge.proofs.SameStates.{states-same, next-inside}
+use Rattle.lr.proofs.CellLaws.{cell-single}
 use Rattle.bridge.proofs.ActionLaws.{cell-is, conflict-is}
 use Rattle.generator.specs.declared.Answer.{Answer}
-use Rattle.generator.specs.declared.Answer.the-variants.{Table, Refused, Useless, Conflict as Met}
-use Rattle.generator.specs.Answer.{meaning, GeneratesAs}
-use Rattle.generator.specs.Phases.{Cleared, Complete}
+use Rattle.generator.specs.Answer.{numbers, GeneratesAs}
+use Rattle.generator.specs.Phases.{Complete}
 
 -- ---- areas
 
@@ -52,27 +54,20 @@ covered-same n l area area′ e h =
 
 -- ---- answers
 
--- where 10 names nothing, every nonterminal is useful
-pub all-useful : (c : List ℕ) (x : ℕ) → LowestUseless (grammarOf c) x → terminals c + nonterminals c ≤ x → AllUseful (grammarOf c)
-all-useful c x l h = record { each-nonterminal = λ y n. l .before y (n .from) (omega (arith, n .below, h)) }
-
 module _ (t₀ z₀ w₀ c : List ℕ) where
   -- refusals 1 to 10 leave the areas
-  pub keeps : (a : definition.Answer) (r : Answer) → generated t₀ z₀ w₀ c .answer ≡ a → writes a ≡ false → meaning r ≡ a → GeneratesAs (generated t₀ z₀ w₀ c) r t₀ z₀ w₀
+  pub keeps : (a : definition.Answer) (r : Answer) → generated t₀ z₀ w₀ c .answer ≡ a → writes a ≡ false → numbers r ≡ numbersOf a → GeneratesAs (generated t₀ z₀ w₀ c) r t₀ z₀ w₀
   keeps a r e n k = rw (left-alone t₀ z₀ w₀ c a e n) (record { answer = k; table = refl; words = refl; halves = refl })
 
   -- the others cover them
-  pub covers-all : (a : definition.Answer) (r : Answer) (t z w : List ℕ) → generated t₀ z₀ w₀ c .answer ≡ a → writes a ≡ true → meaning r ≡ a
-      → t ≡ covered 32004 (tableLeft a c) t₀ → z ≡ covered 8192 [] z₀ → w ≡ covered 16384 [] w₀ → GeneratesAs (generated t₀ z₀ w₀ c) r t z w
+  pub covers-all : (a : definition.Answer) (r : Answer) (t z w : List ℕ) → generated t₀ z₀ w₀ c .answer ≡ a → writes a ≡ true → numbers r ≡ numbersOf a
+      → t ≡ covered tableSize (tableLeft a c) t₀ → z ≡ covered wordsSize [] z₀ → w ≡ covered halvesSize [] w₀ → GeneratesAs (generated t₀ z₀ w₀ c) r t z w
   covers-all a r t z w e n k et ez ew = rw (all-covered t₀ z₀ w₀ c a e n) (record { answer = k; table = et; words = ez; halves = ew })
 
   -- 10: the lowest nonterminal that is not useful
   pub useless-answer : (x : ℕ) → Room t₀ z₀ w₀ → formFault c ≡ 0 → LowestUseless (grammarOf c) x → x < terminals c + nonterminals c → generated t₀ z₀ w₀ c .answer ≡ uselessAt x
   useless-answer x o f l h =
       judged t₀ z₀ w₀ c o f (uselessAt x) (useless (record { from = l .from; below = h }) (l .here h) (λ y n k. l .before y (n .from) k))
-
-  pub useless-refused : (x : ℕ) → Room t₀ z₀ w₀ → formFault c ≡ 0 → LowestUseless (grammarOf c) x → x < terminals c + nonterminals c → GeneratesAs (generated t₀ z₀ w₀ c) (Useless x) t₀ z₀ w₀
-  useless-refused x o f l h = keeps (uselessAt x) (Useless x) (useless-answer x o f l h) refl refl
 
   module _ (o : Room t₀ z₀ w₀) (f : formFault c ≡ 0) (u : AllUseful (grammarOf c)) where
     -- 11
@@ -101,10 +96,10 @@ module _ (t₀ z₀ w₀ c : List ℕ) where
       numbers-states = numbered stated
 
       -- 12
-      pub twelve : (k : ℕ) → k ≡ transitionCount c (nextOf c t n) n → 2048 < k → generated t₀ z₀ w₀ c .answer ≡ refused 12
+      pub twelve : (k : ℕ) → k ≡ transitionCount c (nextOf c t n) n → transitionLimit < k → generated t₀ z₀ w₀ c .answer ≡ refused 12
       twelve k e h = judged t₀ z₀ w₀ c o f (refused 12) (wide n (nextOf c t n) u (stated .states) few (rw (transition-count c (nextOf c t n) n) at (rw e at h)))
 
-      module _ (w z₁ z : List ℕ) (k e : ℕ) (count : k ≡ transitionCount c (nextOf c t n) n) (small : k ≤ 2048) (data′ : Data c w n k e (nextOf c t n))
+      module _ (w z₁ z : List ℕ) (k e : ℕ) (count : k ≡ transitionCount c (nextOf c t n) n) (small : k ≤ transitionLimit) (data′ : Data c w n k e (nextOf c t n))
           (null : (j : ℕ) → j < nonterminals c → Tells (bit e j) (Derives (grammarOf c) ((terminals c + j) ∷ []) [])) (co : Complete c w n k (nextOf c t n) z₁ z) where
         followed : Followed c w n k e (nextOf c t n) z
         followed = record { stated = stated; listed = data′; nullable = null; begun = co .begun; between = co .between; direct = co .direct; reads = co .reads; includes = co .includes }
@@ -123,7 +118,7 @@ module _ (t₀ z₀ w₀ c : List ℕ) where
           built = build n (terminals c) (nonterminals c) (productions c) (leftOf c) (lengthOf c) cell
 
           pub table-made : generated t₀ z₀ w₀ c .answer ≡ made
-          table-made = judged t₀ z₀ w₀ c o f made (fine n (nextOf c t n) sized (λ q m h l. cell-is followed q m (cell q m) l (cells q m h l) .only))
+          table-made = judged t₀ z₀ w₀ c o f made (fine n (nextOf c t n) sized (λ q m h l. cell-single (grammarOf c) (cell-is followed q m (cell q m) (cells q m h l))))
 
           is-table : lr.Table (grammarOf c) n (nextOf c t n) built
           is-table =
@@ -134,10 +129,10 @@ module _ (t₀ z₀ w₀ c : List ℕ) where
                 lefts = λ r h. built-left n (terminals c) (nonterminals c) (productions c) (leftOf c) (lengthOf c) cell r h;
                 lengths = λ r h. built-length n (terminals c) (nonterminals c) (productions c) (leftOf c) (lengthOf c) cell r h ∙ sym (right-length c r h);
                 terminals = λ q m hq hm.
-                    rw (built-cell n (terminals c) (nonterminals c) (productions c) (leftOf c) (lengthOf c) cell q m hq (omega arith)) (cell-is followed q m (cell q m) hm (cells q m hq hm));
+                    rw (built-cell n (terminals c) (nonterminals c) (productions c) (leftOf c) (lengthOf c) cell q m hq (omega arith)) (cell-is followed q m (cell q m) (cells q m hq hm));
                 nonterminals = λ q x hq hx.
                     built-cell n (terminals c) (nonterminals c) (productions c) (leftOf c) (lengthOf c) cell q (terminals c + x) hq (omega arith) ∙ nexts q (terminals c + x) hq (omega arith) (omega arith);
               }
 
           pub the-table : built ≡ tableOf c
-          the-table = table-found c built (card-answer c f made .1 (fine n (nextOf c t n) sized (λ q m h l. cell-is followed q m (cell q m) l (cells q m h l) .only))) is-table
+          the-table = table-found c built (card-answer c f made .1 (fine n (nextOf c t n) sized (λ q m h l. cell-single (grammarOf c) (cell-is followed q m (cell q m) (cells q m h l))))) is-table

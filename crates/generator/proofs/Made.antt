@@ -1,30 +1,30 @@
 -- The answers of `make`, from what each phase leaves.
-use mathlib.Core.Path.{_≡_, refl, sym, ap, _∙_}
+use mathlib.Core.Path.{_≡_, refl, ap, _∙_}
 use mathlib.Core.List.{List, [], _∷_}
-use Prim.Native.Nat.{ℕ, _+_, _≤_, _<_}
+use Prim.Native.Nat.{ℕ, _≤_, _<_}
 use native.Mathlib.Omega.{arith}
-use lib.ListN.{length, getD}
+use lib.ListN.{length}
 use Rattle.sets.specs.Lists.{covered}
 use Rattle.grammar.specs.Card.{terminals, formFault, grammarOf}
 use Rattle.grammar.specs.Grammar.{Derives}
+use Rattle.areas.specs.Areas.{tableSize, wordsSize, halvesSize}
 use Rattle.lr.proofs.ItemLaws.{all-productive}
 use Rattle.lr.specs.States.{States, MoreStates}
-use Rattle.lalr.specs.Generator.{made, refused, conflict, generated, tableOf}
+use Rattle.lalr.specs.Answer.{made, refused, conflict}
+use Rattle.lalr.specs.ComputedGenerator.{generated}
 use Rattle.lalr.specs.Meaning.{AllUseful}
-use Rattle.lalr.proofs.Finish.{Room}
+use Rattle.lalr.specs.Demand2.{Room}
 use Rattle.nonterminals.specs.Sets.{NonterminalSet}
 use Rattle.states.specs.States.{transition}
 use Rattle.states.specs.States as states
 use Rattle.automaton.specs.Outcome.{Outcome, few, many}
 use Rattle.automaton.proofs.Outcomes.{outcome}
+use Rattle.transitions.specs.Places.{transitionLimit}
 use Rattle.transitions.specs.Next.{nextOf, Numbered}
-use Rattle.transitions.specs.Data.{Data}
 use Rattle.transitions.specs.Data as lists
-use Rattle.cells.specs.Areas.{Tabled}
 use Rattle.lookaheads.specs.Outcome.{Stage, Filled}
-use Rattle.lookaheads.specs.Outcome as rows
 use Rattle.lookaheads.specs.declared.Clash.the-variants.{Free, At}
-use Rattle.generator.specs.declared.Answer.the-variants.{Table, Refused, Conflict}
+use Rattle.generator.specs.declared.Answer.the-variants.{Table, ManyStates, ManyTransitions, Conflict}
 use Rattle.generator.specs.Answer.{GeneratesAs}
 use Rattle.generator.specs.Phases.{Cleared, Complete}
 use Rattle.generator.proofs.Laws.{covered-same, covers-all, eleven, twelve, thirteen, table-made, the-table, numbers-states}
@@ -44,19 +44,19 @@ module _ (t₀ z₀ w₀ c : List ℕ) (o : Room t₀ z₀ w₀) (f : formFault 
     after : Outcome c t₁ n
     after = outcome c z₀ t₀ z₁ t₁ n f (all-productive (grammarOf c) (λ x n. u .each-nonterminal x n .productive)) (b .stated)
 
-    same-table : (l : List ℕ) → covered 32004 l t₁ ≡ covered 32004 l t₀
-    same-table l = covered-same 32004 l t₀ t₁ lt (λ i h. b .table-kept .kept i h)
+    same-table : (l : List ℕ) → covered tableSize l t₁ ≡ covered tableSize l t₀
+    same-table l = covered-same tableSize l t₀ t₁ lt (λ i h. b .table-kept .kept i h)
 
-    same-words : covered 8192 [] z₁ ≡ covered 8192 [] z₀
-    same-words = covered-same 8192 [] z₀ z₁ lz (λ i h. b .sets-kept .kept i (omega arith))
+    same-words : covered wordsSize [] z₁ ≡ covered wordsSize [] z₀
+    same-words = covered-same wordsSize [] z₀ z₁ lz (λ i h. b .sets-kept .kept i (omega arith))
 
     -- refusal 11
-    pub eleven-met : {t z w : List ℕ} → 256 < n → Cleared t₁ z₁ w₁ t z w → GeneratesAs (generated t₀ z₀ w₀ c) (Refused 11) t z w
+    pub eleven-met : {t z w : List ℕ} → 256 < n → Cleared t₁ z₁ w₁ t z w → GeneratesAs (generated t₀ z₀ w₀ c) ManyStates t z w
     eleven-met {t} {z} {w} h cl =
-        covers-all t₀ z₀ w₀ c (refused 11) (Refused 11) t z w (eleven t₀ z₀ w₀ c o f u (more c t₁ n after h)) refl refl
+        covers-all t₀ z₀ w₀ c (refused 11) ManyStates t z w (eleven t₀ z₀ w₀ c o f u (more c t₁ n after h)) refl refl
         (cl .table ∙ same-table [])
         (cl .words ∙ same-words)
-        (cl .halves ∙ covered-same 16384 [] w₀ w₁ lw (λ i k. b .words-kept .kept i (omega arith)))
+        (cl .halves ∙ covered-same halvesSize [] w₀ w₁ lw (λ i k. b .words-kept .kept i (omega arith)))
 
     module _ (small : n ≤ 256) where
       abbrev next : ℕ → ℕ → ℕ
@@ -66,18 +66,18 @@ module _ (t₀ z₀ w₀ c : List ℕ) (o : Room t₀ z₀ w₀) (f : formFault 
       numbered-states = numbers-states t₀ z₀ w₀ c o f u t₁ n small (found c t₁ n after small)
 
       module _ (w₂ : List ℕ) (k e : ℕ) (l : lists.Built c w₁ w₂ n k e (nextOf c t₁ n)) where
-        same-halves : covered 16384 [] w₂ ≡ covered 16384 [] w₀
-        same-halves = covered-same 16384 [] w₀ w₂ (l .long ∙ lw) (λ i h. l .rest i (omega arith) ∙ b .words-kept .kept i (omega arith))
+        same-halves : covered halvesSize [] w₂ ≡ covered halvesSize [] w₀
+        same-halves = covered-same halvesSize [] w₀ w₂ (l .long ∙ lw) (λ i h. l .rest i (omega arith) ∙ b .words-kept .kept i (omega arith))
 
         -- refusal 12
-        pub twelve-met : {t z w : List ℕ} → 2048 < k → Cleared t₁ z₁ w₂ t z w → GeneratesAs (generated t₀ z₀ w₀ c) (Refused 12) t z w
+        pub twelve-met : {t z w : List ℕ} → transitionLimit < k → Cleared t₁ z₁ w₂ t z w → GeneratesAs (generated t₀ z₀ w₀ c) ManyTransitions t z w
         twelve-met {t} {z} {w} h cl =
-            covers-all t₀ z₀ w₀ c (refused 12) (Refused 12) t z w (twelve t₀ z₀ w₀ c o f u t₁ n small (found c t₁ n after small) k (l .count) h) refl refl
+            covers-all t₀ z₀ w₀ c (refused 12) ManyTransitions t z w (twelve t₀ z₀ w₀ c o f u t₁ n small (found c t₁ n after small) k (l .count) h) refl refl
             (cl .table ∙ same-table [])
             (cl .words ∙ same-words)
             (cl .halves ∙ same-halves)
 
-        module _ (narrow : k ≤ 2048) (z₂ : List ℕ) (co : Complete c w₂ n k (nextOf c t₁ n) z₁ z₂) where
+        module _ (narrow : k ≤ transitionLimit) (z₂ : List ℕ) (co : Complete c w₂ n k (nextOf c t₁ n) z₁ z₂) where
           pub stage : Stage c t₁ w₂ z₂ n
           stage =
               record {
@@ -91,8 +91,8 @@ module _ (t₀ z₀ w₀ c : List ℕ) (o : Room t₀ z₀ w₀) (f : formFault 
                 halves-long = omega (arith, l .long, lw, o .halves);
               }
 
-          words-left : covered 8192 [] z₂ ≡ covered 8192 [] z₀
-          words-left = covered-same 8192 [] z₀ z₂ (co .long ∙ lz) (λ i h. co .beyond i h ∙ b .sets-kept .kept i (omega arith))
+          words-left : covered wordsSize [] z₂ ≡ covered wordsSize [] z₀
+          words-left = covered-same wordsSize [] z₀ z₂ (co .long ∙ lz) (λ i h. co .beyond i h ∙ b .sets-kept .kept i (omega arith))
 
           module _ (null : NonterminalSet (grammarOf c) (λ x. Derives (grammarOf c) (x ∷ []) []) e) {t z w : List ℕ} where
             -- a table
@@ -102,7 +102,7 @@ module _ (t₀ z₀ w₀ c : List ℕ) (o : Room t₀ z₀ w₀) (f : formFault 
                 let st = found c t₁ n after small in
                 covers-all t₀ z₀ w₀ c made Table t z w
                 (table-made t₀ z₀ w₀ c o f u t₁ n small st w₂ z₁ z₂ k e (l .count) narrow (l .holds narrow) (null .tells) co (T .cell) (T .actions) (T .nexts)) refl refl
-                (T .area ∙ same-table _ ∙ ap (λ (x : List ℕ). covered 32004 x t₀) (the-table t₀ z₀ w₀ c o f u t₁ n small st w₂ z₁ z₂ k e (l .count) narrow (l .holds narrow) (null .tells) co (T .cell) (T .actions) (T .nexts)))
+                (T .area ∙ same-table _ ∙ ap (λ (x : List ℕ). covered tableSize x t₀) (the-table t₀ z₀ w₀ c o f u t₁ n small st w₂ z₁ z₂ k e (l .count) narrow (l .holds narrow) (null .tells) co (T .cell) (T .actions) (T .nexts)))
                 (p .words ∙ words-left)
                 (p .halves ∙ same-halves)
 

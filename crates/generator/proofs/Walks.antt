@@ -9,15 +9,18 @@ use lib.ListN.{length, getD}
 use Rattle.sets.specs.Bit.{bit, Has}
 use Rattle.grammar.specs.Card.{terminals}
 use Rattle.grammar.proofs.CardLaws.{well-formed}
+use Rattle.transitions.specs.Places.{transitionLimit, shiftsAt}
 use Rattle.transitions.specs.Data.{Ordered, Data, Direct, Holds, Begun}
 use Rattle.relations.specs.Edge.{Edge}
+use Rattle.relations.specs.declared.Relation.{Relation}
+use Rattle.relations.specs.declared.Relation.the-variants as relation
 use Rattle.digraph.specs.Completion.{Completed, Walked, Reaches, at, here, step}
 use Rattle.generator.specs.Phases.{Complete}
 
-pub walk-ready : (c w : List ℕ) (n k e r : ℕ) (next : ℕ → ℕ → ℕ) → Data c w n k e next → r ≡ k → Ordered c w r × (r ≤ 2048)
+pub walk-ready : (c w : List ℕ) (n k e r : ℕ) (next : ℕ → ℕ → ℕ) → Data c w n k e next → r ≡ k → Ordered c w r × (r ≤ transitionLimit)
 walk-ready c w n k e r next d h = rw h (d .ordered, d .ordered .few)
 
-pub both-walks : (c w : List ℕ) (n k r : ℕ) (next : ℕ → ℕ → ℕ) (z₀ z₁ z₂ z₃ : List ℕ) → r ≡ k → n ≤ 256 → Begun c w n k next z₀ z₁ → Walked (Edge 0 c w r) r z₁ z₂ → Walked (Edge 1 c w r) r z₂ z₃ → Complete c w n k next z₀ z₃
+pub both-walks : (c w : List ℕ) (n k r : ℕ) (next : ℕ → ℕ → ℕ) (z₀ z₁ z₂ z₃ : List ℕ) → r ≡ k → n ≤ 256 → Begun c w n k next z₀ z₁ → Walked (Edge relation.Reads c w r) r z₁ z₂ → Walked (Edge relation.Includes c w r) r z₂ z₃ → Complete c w n k next z₀ z₃
 both-walks c w n k r next z₀ z₁ z₂ z₃ h few b x y =
     record {
       begun = z₁;
@@ -25,13 +28,13 @@ both-walks c w n k r next z₀ z₁ z₂ z₃ h few b x y =
       direct = b .direct;
       reads = rw h at (x .sets);
       includes = rw h at (y .sets);
-      shifts = λ q l. rw (y .rest (6144 + q) (omega arith) ∙ x .rest (6144 + q) (omega arith)) (b .shifts q l);
+      shifts = λ q l. rw (y .rest (shiftsAt + q) (omega arith) ∙ x .rest (shiftsAt + q) (omega arith)) (b .shifts q l);
       beyond = λ i l. y .rest i (omega arith) ∙ x .rest i (omega arith) ∙ b .rest i (omega arith);
       long = y .size ∙ x .size ∙ b .long;
     }
 
 -- every node that is reached is one of the k
-inside : {kind k v u : ℕ} {c w : List ℕ} → v < k → Reaches (Edge kind c w k) v u → u < k
+inside : {r : Relation} {k v u : ℕ} {c w : List ℕ} → v < k → Reaches (Edge r c w k) v u → u < k
 inside h here = h
 inside h (step e r) = inside (e .inside) r
 

@@ -4,23 +4,26 @@ use mathlib.Core.Path.{_≡_}
 use mathlib.Core.List.{List, []}
 use lib.ListN.{length, getD}
 use Rattle.sets.specs.Lists.{covered}
+use Rattle.areas.specs.Areas.{tableSize, wordsSize, halvesSize}
+use Rattle.transitions.specs.Places.{shiftsAt}
 use Rattle.transitions.specs.Data.{Holds, Direct, Shifts}
 use Rattle.relations.specs.Edge.{Edge}
+use Rattle.relations.specs.declared.Relation.the-variants as relation
 use Rattle.digraph.specs.Completion.{Completed, at}
 
 -- all three areas are zero over the lengths given
 pub record Cleared (t z w t′ z′ w′ : List ℕ) : Type 0 where
-  pub table : t′ ≡ covered 32004 [] t
-  pub words : z′ ≡ covered 8192 [] z
-  pub halves : w′ ≡ covered 16384 [] w
+  pub table : t′ ≡ covered tableSize [] t
+  pub words : z′ ≡ covered wordsSize [] z
+  pub halves : w′ ≡ covered halvesSize [] w
 
 -- the sets of the k transitions after both walks, from the direct reads; and the terminals that each of the n states shifts
 pub record Complete (c w : List ℕ) (n k : ℕ) (next : ℕ → ℕ → ℕ) (z₀ z : List ℕ) : Type 0 where
   pub begun : List ℕ
   pub between : List ℕ
   pub direct : (i : ℕ) → i < k → Holds (getD begun i 0) (Direct c w next i)
-  pub reads : Completed (Edge 0 c w k) k (at begun) (at between)
-  pub includes : Completed (Edge 1 c w k) k (at between) (at z)
-  pub shifts : (q : ℕ) → q < n → Holds (getD z (6144 + q) 0) (Shifts c next q)
-  pub beyond : (i : ℕ) → 8192 ≤ i → getD z i 0 ≡ getD z₀ i 0
+  pub reads : Completed (Edge relation.Reads c w k) k (at begun) (at between)
+  pub includes : Completed (Edge relation.Includes c w k) k (at between) (at z)
+  pub shifts : (q : ℕ) → q < n → Holds (getD z (shiftsAt + q) 0) (Shifts c next q)
+  pub beyond : (i : ℕ) → wordsSize ≤ i → getD z i 0 ≡ getD z₀ i 0
   pub long : length z ≡ length z₀

@@ -3,19 +3,21 @@ use generator::Answer;
 ghost use mathlib.Core.Path.{_≡_};
 ghost use mathlib.Core.List.{[]};
 ghost use Rattle.sets.specs.Lists.{covered};
-ghost use Rattle.lalr.specs.Generator.{generated};
+ghost use Rattle.lalr.specs.ComputedGenerator.{generated};
 ghost use Rattle.generator.specs.Answer.{numbers};
 ghost use Rattle.generator_c.specs.Out.{WritesOut};
 
 fn five(a: Answer) -> [u64; 5]
     ensures { λ r. ⌜ r ≡ covered 5 (numbers a) [] ⌝ }
 {
-    match a {
-        Answer::Table => [0, 0, 0, 0, 0],
-        Answer::Refused(n) => [n as u64, 0, 0, 0, 0],
-        Answer::Useless(x) => [10, x as u64, 0, 0, 0],
-        Answer::Conflict(q, m, v, u) => [13, q as u64, m as u64, v as u64, u as u64],
-    }
+    let n = generator::numbers(a);
+    [
+        n[0] as u64,
+        n[1] as u64,
+        n[2] as u64,
+        n[3] as u64,
+        n[4] as u64,
+    ]
 }
 
 #[no_mangle]

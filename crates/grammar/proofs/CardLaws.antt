@@ -14,7 +14,7 @@ use Rattle.sets.specs.Lists.{each}
 use Rattle.sets.proofs.TestLaws.{and-both, all-at, between-at, passes}
 use Rattle.sets.proofs.ListLaws.{each-length, each-at}
 use Rattle.grammar.specs.Grammar.{Formed, Symbols}
-use Rattle.grammar.specs.Card.{terminals, nonterminals, productions, symbols, leftOf, lengthOf, symbolOf, startOf, rightOf, grammarOf, sizesOk, isNonterminal, isSymbol, leftsOk, rightsOk, formFault}
+use Rattle.grammar.specs.Card.{terminals, nonterminals, productions, symbols, leftOf, lengthOf, symbolsAt, symbolOf, startOf, rightOf, grammarOf, sizesOk, isNonterminal, isSymbol, leftsOk, rightsOk, formFault}
 
 pub record Limits (c : List ℕ) : Type 0 where
   pub terminals-from : 1 ≤ terminals c
@@ -27,7 +27,7 @@ pub record Limits (c : List ℕ) : Type 0 where
 
 pub record WellFormed (c : List ℕ) : Type 0 where
   pub limits : Limits c
-  pub long : length c ≡ 4 + 2 * productions c + symbols c
+  pub long : length c ≡ symbolsAt c + symbols c
   pub sum : startOf c (productions c) ≡ symbols c
   pub lefts : (r : ℕ) → r < productions c → (terminals c ≤ leftOf c r) × (leftOf c r < terminals c + nonterminals c)
   pub rights : (k : ℕ) → k < symbols c → (0 < symbolOf c k) × (symbolOf c k < terminals c + nonterminals c)
@@ -69,11 +69,11 @@ well-formed c e =
     let r9 = unless (rightsOk c) 9 0 in
     let r8 = unless (eqb (startOf c (productions c)) (symbols c)) 8 r9 in
     let r7 = unless (leftsOk c) 7 r8 in
-    let r6 = unless (eqb (length c) (4 + 2 * productions c + symbols c)) 6 r7 in
+    let r6 = unless (eqb (length c) (symbolsAt c + symbols c)) 6 r7 in
     let r5 = unless (sizesOk c) 5 r6 in
     let a = passes (leb 4 (length c)) 3 r5 e in
     let b = passes (sizesOk c) 4 r6 (a .1) in
-    let d = passes (eqb (length c) (4 + 2 * productions c + symbols c)) 5 r7 (b .1) in
+    let d = passes (eqb (length c) (symbolsAt c + symbols c)) 5 r7 (b .1) in
     let f = passes (leftsOk c) 6 r8 (d .1) in
     let s = passes (eqb (startOf c (productions c)) (symbols c)) 7 r9 (f .1) in
     let h = passes (rightsOk c) 8 0 (s .1) in
@@ -113,7 +113,7 @@ unfolding formFault
 fault-most c =
     unless-most (leb 4 (length c)) 4 _ 9 (omega arith)
     (unless-most (sizesOk c) 5 _ 9 (omega arith)
-    (unless-most (eqb (length c) (4 + 2 * productions c + symbols c)) 6 _ 9 (omega arith)
+    (unless-most (eqb (length c) (symbolsAt c + symbols c)) 6 _ 9 (omega arith)
     (unless-most (leftsOk c) 7 _ 9 (omega arith)
     (unless-most (eqb (startOf c (productions c)) (symbols c)) 8 _ 9 (omega arith)
     (unless-most (rightsOk c) 9 0 9 (omega arith) (omega arith))))))

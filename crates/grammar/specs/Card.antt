@@ -30,9 +30,12 @@ leftOf c r = getD c (4 + r) 0
 unfoldable pub lengthOf : List ℕ → ℕ → ℕ
 lengthOf c r = getD c (4 + productions c + r) 0
 
--- the k-th symbol of all right sides, and where those of production r begin
+-- where the symbols of all right sides begin; the k-th of them, and where among them those of production r begin
+abbrev pub symbolsAt : List ℕ → ℕ
+symbolsAt c = 4 + 2 * productions c
+
 unfoldable pub symbolOf : List ℕ → ℕ → ℕ
-symbolOf c k = getD c (4 + 2 * productions c + k) 0
+symbolOf c k = getD c (symbolsAt c + k) 0
 
 unfoldable pub startOf : List ℕ → ℕ → ℕ
 startOf c zero = 0
@@ -72,7 +75,7 @@ unfoldable pub formFault : List ℕ → ℕ
 formFault c =
     unless (leb 4 (length c)) 4
     (unless (sizesOk c) 5
-    (unless (eqb (length c) (4 + 2 * productions c + symbols c)) 6
+    (unless (eqb (length c) (symbolsAt c + symbols c)) 6
     (unless (leftsOk c) 7
     (unless (eqb (startOf c (productions c)) (symbols c)) 8
     (unless (rightsOk c) 9 0)))))

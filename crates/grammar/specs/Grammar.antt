@@ -5,7 +5,8 @@ use mathlib.Core.Path.{_≡_}
 use mathlib.Core.List.{List, [], _∷_, _++_}
 
 -- The symbols below `terminals` are terminals, 0 being the end marker; the next `nonterminals` symbols are nonterminals, the first of
--- them, the number `terminals`, the start. Productions 0 .. `productions`-1 are the grammar's; `productions` is the added one.
+-- them, the number `terminals`, the start. Productions 0 .. `productions`-1 are the grammar's; `productions` is the added one, start′ → start.
+-- `left` is of the productions below `productions` alone: start′ is no symbol, and what `left` gives for the added production means nothing.
 pub record Grammar : Type 0 where
   pub terminals : ℕ
   pub nonterminals : ℕ

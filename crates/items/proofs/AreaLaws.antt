@@ -9,7 +9,7 @@ use lib.ListN.{length, getD, take, drop, length-drop, List·getD-eq-default, Lis
 use lib.Pow.{pow-pos}
 use lib.Seq.{length-take-le, getD-append-add, getD-take, getD-drop, ext-getD, paste, length-paste-head, length-paste}
 use Rattle.items.proofs.ItemLaws.{Words, same-of}
-use Rattle.items.specs.Item.{item, Same}
+use Rattle.items.specs.Item.{setSize, item, Same}
 use Rattle.sets.proofs.HasLaws.{lt-or-ge}
 
 module _ (d : List ℕ) (at : ℕ) (s : List ℕ) (n : ℕ) (hd : at + n ≤ length d) (hs : n ≤ length s) where
@@ -64,20 +64,20 @@ part-at d at n k h = getD-take n (drop at d) k 0 h ∙ getD-drop at d k 0
 pub part-length : (d : List ℕ) (at n : ℕ) → at + n ≤ length d → length (take n (drop at d)) ≡ n
 part-length d at n h = length-take-le n (drop at d) (omega (arith, length-drop at d))
 
-module _ (d : List ℕ) (at : ℕ) (s : List ℕ) (room : at + 11 ≤ length d) (ls : length s ≡ 11) where
-  part-words : ((k : ℕ) → getD d (at + k) 0 < 2 ^ 64) → Words (take 11 (drop at d))
+module _ (d : List ℕ) (at : ℕ) (s : List ℕ) (room : at + setSize ≤ length d) (ls : length s ≡ setSize) where
+  part-words : ((k : ℕ) → getD d (at + k) 0 < 2 ^ 64) → Words (take setSize (drop at d))
   part-words f k =
-      ⊎-elim (λ (h : k < 11). rw (part-at d at 11 k h) (f k))
-      (λ (h : 11 ≤ k). rw (List·getD-eq-default (take 11 (drop at d)) 0 {n = k} (rw (part-length d at 11 room) h)) (pow-pos 64)) (lt-or-ge k 11)
+      ⊎-elim (λ (h : k < setSize). rw (part-at d at setSize k h) (f k))
+      (λ (h : setSize ≤ k). rw (List·getD-eq-default (take setSize (drop at d)) 0 {n = k} (rw (part-length d at setSize room) h)) (pow-pos 64)) (lt-or-ge k setSize)
 
-  pub not-same : ((k : ℕ) → getD d (at + k) 0 < 2 ^ 64) → Words s → (k : ℕ) → k < 11 → (getD d (at + k) 0 ≡ getD s k 0 → ⊥) → Same (take 11 (drop at d)) s false
+  pub not-same : ((k : ℕ) → getD d (at + k) 0 < 2 ^ 64) → Words s → (k : ℕ) → k < setSize → (getD d (at + k) 0 ≡ getD s k 0 → ⊥) → Same (take setSize (drop at d)) s false
   not-same f g k h n =
-      same-of (take 11 (drop at d)) s false (part-length d at 11 room) ls (part-words f) g
-      (record { yes = λ e. absurd (false≢true e); so = λ e. absurd (n (sym (part-at d at 11 k h) ∙ ap (λ (l : List ℕ). getD l k 0) e)) })
+      same-of (take setSize (drop at d)) s false (part-length d at setSize room) ls (part-words f) g
+      (record { yes = λ e. absurd (false≢true e); so = λ e. absurd (n (sym (part-at d at setSize k h) ∙ ap (λ (l : List ℕ). getD l k 0) e)) })
 
-  pub is-same : ((k : ℕ) → k < 11 → getD d (at + k) 0 ≡ getD s k 0) → Same (take 11 (drop at d)) s true
+  pub is-same : ((k : ℕ) → k < setSize → getD d (at + k) 0 ≡ getD s k 0) → Same (take setSize (drop at d)) s true
   is-same h =
-      let e : take 11 (drop at d) ≡ s = ext-getD 0 _ _ (part-length d at 11 room ∙ sym ls) (λ k l. part-at d at 11 k (rw (part-length d at 11 room) at l) ∙ h k (rw (part-length d at 11 room) at l)) in
+      let e : take setSize (drop at d) ≡ s = ext-getD 0 _ _ (part-length d at setSize room ∙ sym ls) (λ k l. part-at d at setSize k (rw (part-length d at setSize room) at l) ∙ h k (rw (part-length d at setSize room) at l)) in
       record {
         words = record { yes = λ t. e; so = λ t. refl };
         items = record { yes = λ t k l. ap (λ (l : List ℕ). item l k) e; so = λ t. refl };

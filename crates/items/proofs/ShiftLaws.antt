@@ -14,7 +14,7 @@ use lib.Pow.{pow-pos}
 use lib.Seq.{getD-set-same, getD-set-other}
 use borrow.Author.Count.{below-more}
 use Rattle.items.proofs.NextLaws.{item-word}
-use Rattle.items.specs.Item.{item, Shifted}
+use Rattle.items.specs.Item.{itemLimit, setSize, item, Shifted}
 use Rattle.sets.proofs.BitLaws.{bit-or, bit-and, bit-low, bit-suc, bit-zero, bit-above, bit-not, bit-shr}
 use Rattle.sets.proofs.HasLaws.{lt-or-ge, or-cases, or-left, or-right}
 use Rattle.sets.proofs.TestLaws.{and-true, and-both}
@@ -47,15 +47,15 @@ carried a b (suc j) = common a b j / 2 ^ 63
 
 -- the words below i are done, and `carry` goes into word i
 pub record Shifting (a b t : List ℕ) (carry i : ℕ) : Type 0 where
-  pub most : i ≤ 11
-  pub long : length t ≡ 11
+  pub most : i ≤ setSize
+  pub long : length t ≡ setSize
   pub done : (j : ℕ) → j < i → getD t j 0 ≡ bitOr ((common a b j * 2 ^ 1) % 2 ^ 64) (carried a b j)
   pub next : carry ≡ carried a b i
 
-pub shift-start : (a b t : List ℕ) → length t ≡ 11 → Shifting a b t 0 0
+pub shift-start : (a b t : List ℕ) → length t ≡ setSize → Shifting a b t 0 0
 shift-start a b t l = record { most = omega arith; long = l; done = λ j h. absurd (let z : ⊥ = omega arith in z); next = refl }
 
-pub shift-more : (a b t : List ℕ) (carry i : ℕ) → Shifting a b t carry i → i < 11
+pub shift-more : (a b t : List ℕ) (carry i : ℕ) → Shifting a b t carry i → i < setSize
     → Shifting a b (set t i (bitOr ((common a b i * 2 ^ 1) % 2 ^ 64) carry)) (common a b i / 2 ^ 63) (i + 1)
 shift-more a b t carry i s h =
     let v = bitOr ((common a b i * 2 ^ 1) % 2 ^ 64) carry in
@@ -67,7 +67,7 @@ shift-more a b t carry i s h =
       next = rw (add-one i);
     }
 
-module _ (a b t : List ℕ) (fits : (j : ℕ) → getD a j 0 < 2 ^ 64) (carry : ℕ) (s : Shifting a b t carry 11) where
+module _ (a b t : List ℕ) (fits : (j : ℕ) → getD a j 0 < 2 ^ 64) (carry : ℕ) (s : Shifting a b t carry setSize) where
   small : (j : ℕ) → common a b j < 2 ^ 64
   small j = let l : common a b j ≤ getD a j 0 = and-le-l (getD a j 0) (getD b j 0) in omega (arith, fits j)
 
@@ -82,7 +82,7 @@ module _ (a b t : List ℕ) (fits : (j : ℕ) → getD a j 0 < 2 ^ 64) (carry : 
       bit-and (getD a j 0) (getD b j 0) m ∙ and-true (sym (item-word a j m h) ∙ ha) (sym (item-word b j m h) ∙ hb)
 
   -- a digit of a word of t
-  digit : (j m : ℕ) → j < 11 → m < 64 → item t (j * 64 + m) ≡ (bit ((common a b j * 2 ^ 1) % 2 ^ 64) m || bit (carried a b j) m)
+  digit : (j m : ℕ) → j < setSize → m < 64 → item t (j * 64 + m) ≡ (bit ((common a b j * 2 ^ 1) % 2 ^ 64) m || bit (carried a b j) m)
   digit j m hj hm = item-word t j m hm ∙ ap (λ (x : ℕ). bit x m) (s .done j hj) ∙ bit-or ((common a b j * 2 ^ 1) % 2 ^ 64) (carried a b j) m
 
   Before : ℕ → Type 0
@@ -109,15 +109,15 @@ module _ (a b t : List ℕ) (fits : (j : ℕ) → getD a j 0 < 2 ^ 64) (carry : 
   unfolding item
   from k e =
       ⊎-elim
-      (λ (h : k / 64 < 11).
+      (λ (h : k / 64 < setSize).
       subst Before (sym (split k))
       (⊎-elim (in-word (k / 64) (k % 64) (omega arith)) (in-carry (k / 64) (k % 64) (omega arith))
       (or-cases _ _ (sym (digit (k / 64) (k % 64) h (omega arith)) ∙ ap (item t) (sym (split k)) ∙ e))))
-      (λ (h : 11 ≤ k / 64).
+      (λ (h : setSize ≤ k / 64).
       absurd (false≢true (sym (ap (λ (x : ℕ). bit x (k % 64)) (List·getD-eq-default t 0 (omega (arith, s .long))) ∙ bit-zero (k % 64)) ∙ e)))
-      (lt-or-ge (k / 64) 11)
+      (lt-or-ge (k / 64) setSize)
 
-  at-next : (j m : ℕ) → j * 64 + m < 703 → m < 64 → bit (common a b j) m ≡ true → item t (j * 64 + m + 1) ≡ true
+  at-next : (j m : ℕ) → j * 64 + m + 1 < itemLimit → m < 64 → bit (common a b j) m ≡ true → item t (j * 64 + m + 1) ≡ true
   at-next j m l h e =
       ⊎-elim
       (λ (g : m < 63).
@@ -129,7 +129,7 @@ module _ (a b t : List ℕ) (fits : (j : ℕ) → getD a j 0 < 2 ^ 64) (carry : 
       rw z (digit (suc j) 0 (omega arith) (omega arith) ∙ or-right (bit ((common a b (suc j) * 2 ^ 1) % 2 ^ 64) 0) (bit (carried a b (suc j)) 0) (bit-shr (common a b j) 63 0 ∙ rw y at e)))
       (lt-or-ge m 63)
 
-  all : (i : ℕ) → i < 703 → item a i ≡ true → item b i ≡ true → item t (i + 1) ≡ true
+  all : (i : ℕ) → i + 1 < itemLimit → item a i ≡ true → item b i ≡ true → item t (i + 1) ≡ true
   all i h ha hb =
       let e = split i in
       ap (λ (x : ℕ). item t (x + 1)) e

@@ -6,7 +6,10 @@ use Prim.Native.Nat.{ℕ, _+_, _-_, _≤_, _<_}
 use native.Mathlib.Omega.{arith}
 use lib.ListN.{length, getD, drop, replicate, length-append, length-drop, length-replicate, List·getD-append}
 use Rattle.sets.specs.Lists.{covered}
-use Rattle.lalr.specs.Generator.{Answer, made, answerOf, tableOf, writes, tableLeft, generated}
+use Rattle.areas.specs.Areas.{tableSize}
+use Rattle.lalr.specs.Answer.{Answer, made}
+use Rattle.lalr.specs.ComputedAnswer.{tableOf}
+use Rattle.lalr.specs.ComputedGenerator.{answerOf, writes, tableLeft, generated}
 
 pub covered-length : (n : ℕ) (l area : List ℕ) → length l ≤ n → n ≤ length area → length (covered n l area) ≡ length area
 unfolding covered
@@ -18,7 +21,7 @@ covered-length n l area h k =
     omega arith
 
 -- the table area holds the table, and what stands behind it
-pub made-area : (t z w c : List ℕ) → answerOf (length t) (length z) (length w) c ≡ made → generated t z w c .table ≡ tableOf c ++ (replicate (32004 - length (tableOf c)) 0 ++ drop 32004 t)
+pub made-area : (t z w c : List ℕ) → answerOf (length t) (length z) (length w) c ≡ made → generated t z w c .table ≡ tableOf c ++ (replicate (tableSize - length (tableOf c)) 0 ++ drop tableSize t)
 unfolding generated covered
 made-area t z w c e = rw e
 

@@ -9,18 +9,20 @@ use native.Mathlib.Decide.{ℕ-discrete}
 use lib.ListN.{length}
 use Rattle.grammar.specs.Grammar.{Grammar, Formed}
 use Rattle.lr.proofs.ItemLaws.{AllProductive}
-use Rattle.lr.proofs.Automaton.{Automaton, Lookahead}
+use Rattle.lr.proofs.Automaton.{Automaton, Lookahead, sits-lookahead, lookahead-sits}
 use Rattle.sets.specs.Lists.{each}
+use Rattle.tables.specs.Layout.{reduction, accept}
 use Rattle.tables.specs.Conflicts.{Single, Conflict, Before, lower-state, lower-symbol}
 use Rattle.lr.specs.Cells.{Action, shifts, reduces, accepts}
 use Rattle.sets.specs.Bit.{bit}
-use Rattle.lalr.specs.Sets.{when}
-use Rattle.lalr.specs.Lalr
-use Rattle.lalr.specs.Lalr.{first, fact, facts, isMove, actions, cell}
-use Rattle.lalr.specs.Generator.{Answer, made, conflict, orElse, meeting, conflictIn, conflictFrom, conflictOf}
+use Rattle.lalr.specs.ComputedSets.{when}
+use Rattle.lalr.specs.ComputedStates
+use Rattle.lalr.specs.ComputedStates.{first, fact, facts, isMove, actions, cell}
+use Rattle.lalr.specs.Answer.{Answer, made, conflict}
+use Rattle.lalr.specs.ComputedAnswer.{orElse, meeting, conflictIn, conflictFrom, conflictOf}
 use Rattle.lalr.proofs.Lists.{not-true, each-in, each-from, From, from, when-in, when-from}
 use Rattle.lalr.proofs.ItemLaws.{Valid}
-use Rattle.lalr.proofs.FactLaws.{Sits, facts-only, facts-all}
+use Rattle.lalr.proofs.FactLaws.{facts-only, facts-all}
 
 -- ---- ascending lists: from n on, below m
 pub data Between : ℕ → ℕ → List ℕ → Type 0 where
@@ -109,9 +111,9 @@ module _ (met : ℕ → ℕ → List ℕ) where
       go (hit {m} h k e c) r = met-at {p = q} {m = m} (omega arith) (omega arith) (omega arith) e (λ p′ m′ i j k. absurd (omega arith)) (λ m′ l. c m′ (omega arith) l)
 
 -- ---- the actions of a cell
-module _ (g : Grammar) (f : Formed g) (pr : AllProductive g) (rows : List (List ℕ)) (holds : ℕ → ℕ → ℕ → Type 0) (au : Automaton g (length rows) holds (Lalr.goes g rows)) where
+module _ (g : Grammar) (f : Formed g) (pr : AllProductive g) (rows : List (List ℕ)) (holds : ℕ → ℕ → ℕ → Type 0) (au : Automaton g (length rows) holds (ComputedStates.goes g rows)) where
   abbrev next : ℕ → ℕ → ℕ
-  next q x = Lalr.goes g rows q x
+  next q x = ComputedStates.goes g rows q x
 
   abbrev acts : ℕ → ℕ → List ℕ
   acts q a = actions g rows (facts g rows) q a
@@ -120,10 +122,10 @@ module _ (g : Grammar) (f : Formed g) (pr : AllProductive g) (rows : List (List 
   shifting q a = when (isMove g (next q a)) (next q a ∷ [])
 
   abbrev reducing : ℕ → ℕ → ℕ → List ℕ
-  reducing q a r = when (bit (facts g rows) (fact g q (first g r + length (g.right r)) a)) ((1024 + r) ∷ [])
+  reducing q a r = when (bit (facts g rows) (fact g q (first g r + length (g.right r)) a)) (reduction r ∷ [])
 
   abbrev accepting : ℕ → ℕ → List ℕ
-  accepting q a = when (bit (facts g rows) (fact g q (first g g.productions + 1) a)) (4096 ∷ [])
+  accepting q a = when (bit (facts g rows) (fact g q (first g g.productions + 1) a)) (accept ∷ [])
 
   full-valid : (r : ℕ) → r ≤ g.productions → Valid g r (length (g.right r))
   full-valid r h = record { production = h; dot = omega arith }
@@ -142,21 +144,18 @@ module _ (g : Grammar) (f : Formed g) (pr : AllProductive g) (rows : List (List 
   on-move zero h = absurd (h refl)
   on-move (suc n) h = refl
 
-  lookahead-of : {q r a : ℕ} → Sits g f pr rows holds au q r (length (g.right r)) a → Lookahead g next q r a
-  lookahead-of s = record { path = s .path; leads = s .leads; item = s .item }
-
   pub actions-only : (q a v : ℕ) → a < g.terminals → List·Memᴰ v (acts q a) → Action g next q a v
   actions-only q a v ha m = go (List·Memᴰ·append-cases (shifting q a) m)
     where
       by-production : From v g.productions (reducing q a) → Action g next q a v
       by-production (from r h k) =
           let t = when-from (bit (facts g rows) (fact g q (first g r + length (g.right r)) a)) k in
-          rw (List·Memᴰ·eq-of-singleton (t .1)) (reduces r h (lookahead-of (facts-only g f pr rows holds au q r (length (g.right r)) a (full-valid r (omega arith)) ha (t .0))))
+          rw (List·Memᴰ·eq-of-singleton (t .1)) (reduces r h (sits-lookahead g (facts-only g f pr rows holds au q r (length (g.right r)) a (full-valid r (omega arith)) ha (t .0))))
 
       last : List·Memᴰ v (accepting q a) → Action g next q a v
       last k =
           let t = when-from (bit (facts g rows) (fact g q (first g g.productions + 1) a)) k in
-          rw (List·Memᴰ·eq-of-singleton (t .1)) (accepts (lookahead-of (facts-only g f pr rows holds au q g.productions (length (g.right g.productions)) a (full-valid g.productions (omega arith)) ha (ap (bit (facts g rows)) (added-fact q a) ∙ t .0))))
+          rw (List·Memᴰ·eq-of-singleton (t .1)) (accepts (sits-lookahead g (facts-only g f pr rows holds au q g.productions (length (g.right g.productions)) a (full-valid g.productions (omega arith)) ha (ap (bit (facts g rows)) (added-fact q a) ∙ t .0))))
 
       rest : List·Memᴰ v (each g.productions (reducing q a)) ⊎ List·Memᴰ v (accepting q a) → Action g next q a v
       rest (inl k) = by-production (each-from g.productions (reducing q a) k)
@@ -167,7 +166,7 @@ module _ (g : Grammar) (f : Formed g) (pr : AllProductive g) (rows : List (List 
       go (inr k) = rest (List·Memᴰ·append-cases (each g.productions (reducing q a)) k)
 
   there-of : {q r a : ℕ} → Lookahead g next q r a → bit (facts g rows) (fact g q (first g r + length (g.right r)) a) ≡ true
-  there-of {q} {r} {a} h = rw (h .leads) at (facts-all g f pr rows holds au (h .item) .there)
+  there-of h = let s = lookahead-sits g f pr (length rows) holds next au h in rw (s .leads) at (facts-all g f pr rows holds au (s .item) .there)
 
   pub actions-all : (q a v : ℕ) → Action g next q a v → List·Memᴰ v (acts q a)
   actions-all q a v (shifts ha nz) = let m : List·Memᴰ (next q a) (shifting q a) = when-in (on-move (next q a) nz) (List·Memᴰ·head refl) in Memᴰ·append-left (each g.productions (reducing q a) ++ accepting q a) m
@@ -233,7 +232,7 @@ module _ (g : Grammar) (f : Formed g) (pr : AllProductive g) (rows : List (List 
           before = λ q′ m′ h k b. single-of q′ m′ k (at q′ m′ k b);
         }
       where
-        at : (q′ m′ : ℕ) → m′ < g.terminals → Before q m q′ m′ → Short (acts q′ m′)
+        at : (q′ m′ : ℕ) → m′ < g.terminals → Before q′ m′ q m → Short (acts q′ m′)
         at q′ m′ k (lower-state l) = c q′ m′ (omega arith) l k
         at q′ m′ k (lower-symbol e l) = rw e (d m′ l)
 
@@ -251,6 +250,3 @@ module _ (g : Grammar) (f : Formed g) (pr : AllProductive g) (rows : List (List 
 
     pub action-cell : (q m v : ℕ) → Short (acts q m) → Action g next q m v → cell (acts q m) ≡ v
     action-cell q m v s a = mem-cell s (actions-all q m v a)
-
-    pub action-positive : (q m v : ℕ) → q < length rows → Action g next q m v → 1 ≤ v
-    action-positive q m v h a = between-mem (ascending q m h) (actions-all q m v a)

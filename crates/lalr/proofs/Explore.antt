@@ -12,7 +12,7 @@ use lib.Dec.{eqb, ltb}
 use borrow.Author.Tests.{eqb-true, eqb-false, ltb-true, ltb-false}
 use Rattle.grammar.specs.Grammar.{Grammar}
 use Rattle.lr.specs.States.{Given, done, known, new, Taken}
-use Rattle.lalr.specs.Lalr.{placeOf, place, enterOf, enter, goto, rowSets, rowOf, explore, goes, Found}
+use Rattle.lalr.specs.ComputedStates.{placeOf, place, enterOf, enter, goto, rowSets, rowOf, explore, goes, Found}
 use Rattle.lalr.proofs.Members.{All, none, some}
 
 pub record Grown (ts us : List ℕ) : Type 0 where

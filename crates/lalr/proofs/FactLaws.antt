@@ -9,23 +9,24 @@ use lib.Pow.{pow-lt}
 use lib.Arith.{digits-div, digits-mod, digits-lt}
 use lib.ListN.{length, drop}
 use Rattle.grammar.specs.Grammar.{Grammar, Formed, Symbols}
+use Rattle.lr.proofs.Canonical.{Canonical}
 use Rattle.lr.specs.Items
 use Rattle.lr.proofs.Firsts.{first-yields}
 use Rattle.lr.proofs.ItemLaws.{AllProductive, after-symbols, lookahead-terminal}
-use Rattle.lr.proofs.Automaton.{Automaton, walk, walk-snoc}
+use Rattle.lr.proofs.Automaton.{Automaton, Sits, walk, walk-snoc}
 use Rattle.sets.specs.Lists.{each}
 use Rattle.sets.specs.Bit.{bit}
-use Rattle.lalr.specs.Sets.{when}
-use Rattle.lalr.specs.Nonterminals.{nullables, firsts, inFirst}
-use Rattle.lalr.specs.Lalr
-use Rattle.lalr.specs.Lalr.{first, total, restAt, startsOf, fact, following, facts}
+use Rattle.lalr.specs.ComputedSets.{when}
+use Rattle.lalr.specs.ComputedNonterminals.{nullables, firsts, inFirst}
+use Rattle.lalr.specs.ComputedStates
+use Rattle.lalr.specs.ComputedStates.{first, total, restAt, startsOf, fact, following, facts}
 use Rattle.lalr.proofs.Members.{All, none, some, has-power, has-power-only}
 use Rattle.lalr.proofs.Reach.{reach-only, reach-all, reach-start}
 use Rattle.lalr.proofs.Lists.{all-of, each-in, each-from, From, from, when-in, when-from}
 use Rattle.lalr.proofs.ItemLaws.{Valid, Rest, rest, rest-of, rest-at, item-below, item-inj, valid-production, moved-valid, starts-from, starts-in}
 use Rattle.lalr.proofs.FirstLaws.{in-sound, in-all}
 
-module _ (g : Grammar) (f : Formed g) (pr : AllProductive g) (rows : List (List ℕ)) (holds : ℕ → ℕ → ℕ → Type 0) (au : Automaton g (length rows) holds (Lalr.goes g rows)) where
+module _ (g : Grammar) (f : Formed g) (pr : AllProductive g) (rows : List (List ℕ)) (holds : ℕ → ℕ → ℕ → Type 0) (au : Automaton g (length rows) holds (ComputedStates.goes g rows)) where
   abbrev T : ℕ
   T = g.terminals
 
@@ -33,7 +34,7 @@ module _ (g : Grammar) (f : Formed g) (pr : AllProductive g) (rows : List (List 
   I = total g
 
   abbrev next : ℕ → ℕ → ℕ
-  next q x = Lalr.goes g rows q x
+  next q x = ComputedStates.goes g rows q x
 
   abbrev lookahead : List ℕ → ℕ → ℕ → Bool
   lookahead β a b = inFirst g (nullables g) (firsts g) β a b
@@ -44,22 +45,16 @@ module _ (g : Grammar) (f : Formed g) (pr : AllProductive g) (rows : List (List 
   abbrev fol : ℕ → List ℕ
   fol k = following g (nullables g) (firsts g) rows (k / T / I) (k / T % I) (k % T)
 
-  -- on some path to state q the item has the lookahead a
-  pub record Sits (q r d a : ℕ) : Type 0 where
-    pub path : List ℕ
-    pub leads : walk next 0 path ≡ q
-    pub item : Items.Canonical g path r d a
-
   fact-parts : (q k a : ℕ) → k < I → a < T → (fact g q k a / T / I ≡ q) × (fact g q k a / T % I ≡ k) × (fact g q k a % T ≡ a)
   fact-parts q k a hk ha =
       let e : fact g q k a / T ≡ q * I + k = digits-div (q * I + k) ha in
       (ap (λ (x : ℕ). x / I) e ∙ digits-div q hk, ap (λ (x : ℕ). x % I) e ∙ digits-mod q hk, digits-mod (q * I + k) ha)
 
   abbrev At : ℕ → Type 0
-  At k = (q r d a : ℕ) → Valid g r d → a < T → k ≡ fact g q (first g r + d) a → Sits q r d a
+  At k = (q r d a : ℕ) → Valid g r d → a < T → k ≡ fact g q (first g r + d) a → Sits g next q r d a
 
   -- a fact that is shown at its own place is shown
-  at-fact : (q r d a : ℕ) → Valid g r d → a < T → Sits q r d a → At (fact g q (first g r + d) a)
+  at-fact : (q r d a : ℕ) → Valid g r d → a < T → Sits g next q r d a → At (fact g q (first g r + d) a)
   at-fact q r d a v h s q′ r′ d′ a′ v′ h′ e =
       let t = fact-parts q (first g r + d) a (item-below g v) h in
       let u = fact-parts q′ (first g r′ + d′) a′ (item-below g v′) h′ in
@@ -106,11 +101,11 @@ module _ (g : Grammar) (f : Formed g) (pr : AllProductive g) (rows : List (List 
       let e2 : k / T / I * I + k / T % I ≡ k / T = div-add-mod' (k / T) I in
       sym (ap (λ (x : ℕ). x * T + k % T) e2 ∙ e)
 
-  sits-goto : {q r d a x : ℕ} {β : List ℕ} → Sits q r d a → drop d (g.right r) ≡ x ∷ β → Sits (next q x) r (suc d) a
-  sits-goto {x = x} s e = record { path = s .path ++ x ∷ []; leads = walk-snoc next 0 (s .path) x ∙ ap (λ (p : ℕ). next p x) (s .leads); item = Items.goto (s .item) e }
+  sits-goto : {q r d a x : ℕ} {β : List ℕ} → Sits g next q r d a → drop d (g.right r) ≡ x ∷ β → Sits g next (next q x) r (suc d) a
+  sits-goto {x = x} s e = record { path = s .path ++ x ∷ []; leads = walk-snoc next 0 (s .path) x ∙ ap (λ (p : ℕ). next p x) (s .leads); item = Canonical.goto (s .item) e }
 
-  sits-close : {q r d a s b : ℕ} {β : List ℕ} → Sits q r d a → drop d (g.right r) ≡ g.left s ∷ β → s < g.productions → b < T → lookahead β a b ≡ true → Sits q s 0 b
-  sits-close {a = a} {b = b} t e h hb k = record { path = t .path; leads = t .leads; item = Items.close (t .item) e h (in-sound g f pr a b hb (after-symbols g f pr (t .item) e) k) }
+  sits-close : {q r d a s b : ℕ} {β : List ℕ} → Sits g next q r d a → drop d (g.right r) ≡ g.left s ∷ β → s < g.productions → b < T → lookahead β a b ≡ true → Sits g next q s 0 b
+  sits-close {a = a} {b = b} t e h hb k = record { path = t .path; leads = t .leads; item = Canonical.close (t .item) e h (in-sound g f pr a b hb (after-symbols g f pr (t .item) e) k) }
 
   keeps : (k : ℕ) → At k → All At (fol k)
   keeps k p =
@@ -121,7 +116,7 @@ module _ (g : Grammar) (f : Formed g) (pr : AllProductive g) (rows : List (List 
       small : k % T < T
       small = mod-lt k f.end-marker
 
-      sits : (r d : ℕ) → Valid g r d → k / T % I ≡ first g r + d → Sits (k / T / I) r d (k % T)
+      sits : (r d : ℕ) → Valid g r d → k / T % I ≡ first g r + d → Sits g next (k / T / I) r d (k % T)
       sits r d v e = p (k / T / I) r d (k % T) v small (whole k ∙ ap (λ (i : ℕ). fact g (k / T / I) i (k % T)) e)
 
       go : (x : ℕ) (β : List ℕ) → Rest g (suc g.productions) (k / T % I) x β → At (fact g (next (k / T / I) x) (suc (k / T % I)) (k % T))
@@ -142,9 +137,9 @@ module _ (g : Grammar) (f : Formed g) (pr : AllProductive g) (rows : List (List 
   plus-zero = omega arith
 
   first-at : At (fact g 0 (first g g.productions) 0)
-  first-at = rw plus-zero at (at-fact 0 g.productions 0 0 added-valid f.end-marker (record { path = []; leads = refl; item = Items.start }))
+  first-at = rw plus-zero at (at-fact 0 g.productions 0 0 added-valid f.end-marker (record { path = []; leads = refl; item = Canonical.start }))
 
-  pub facts-only : (q r d a : ℕ) → Valid g r d → a < T → bit (facts g rows) (fact g q (first g r + d) a) ≡ true → Sits q r d a
+  pub facts-only : (q r d a : ℕ) → Valid g r d → a < T → bit (facts g rows) (fact g q (first g r + d) a) ≡ true → Sits g next q r d a
   unfolding facts
   facts-only q r d a v ha h =
       reach-only fol At keeps size (2 ^ fact g 0 (first g g.productions) 0)
@@ -187,13 +182,13 @@ module _ (g : Grammar) (f : Formed g) (pr : AllProductive g) (rows : List (List 
   unfolding facts
   start-there = reach-start fol size (2 ^ fact g 0 (first g g.productions) 0) (fact g 0 (first g g.productions) 0) (has-power (fact g 0 (first g g.productions) 0))
 
-  pub facts-all : {γ : List ℕ} {r d a : ℕ} → Items.Canonical g γ r d a → Placed (walk next 0 γ) r d a
-  facts-all Items.start = record { state = au.some-state; item = added-valid; terminal = f.end-marker; there = rw plus-zero start-there }
-  facts-all (Items.close {γ} {β} {r} {d} {a} {s} {b} i e h fi) =
+  pub facts-all : {γ : List ℕ} {r d a : ℕ} → Canonical g γ r d a → Placed (walk next 0 γ) r d a
+  facts-all Canonical.start = record { state = au.some-state; item = added-valid; terminal = f.end-marker; there = rw plus-zero start-there }
+  facts-all (Canonical.close {γ} {β} {r} {d} {a} {s} {b} i e h fi) =
       let p = facts-all i in
-      let hb : b < T = lookahead-terminal g f (Items.close i e h fi) in
+      let hb : b < T = lookahead-terminal g f (Canonical.close i e h fi) in
       record { state = p .state; item = valid-production g h; terminal = hb; there = follow p (mem-closure (walk next 0 γ) (first g r + d) a (rest-at g (p .item) ∙ e) s b h refl hb (in-all g f pr a b hb β (first-yields g fi))) }
-  facts-all (Items.goto {γ} {β} {r} {d} {a} {x} i e) =
+  facts-all (Canonical.goto {γ} {β} {r} {d} {a} {x} i e) =
       let p = facts-all i in
       let n : suc (first g r + d) ≡ first g r + suc d = omega arith in
       rw (walk-snoc next 0 γ x)

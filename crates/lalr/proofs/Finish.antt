@@ -12,8 +12,12 @@ use borrow.Author.Tests.{lt-ltb, le-ltb}
 use Rattle.grammar.specs.Card.{formFault, grammarOf}
 use Rattle.lr.specs.Cells.{Table}
 use Rattle.sets.specs.Lists.{covered}
-use Rattle.lalr.specs.Generator.{Answer, made, refused, answerOf, cardAnswer, tableOf, writes, tableLeft, Generated, generated}
+use Rattle.areas.specs.Areas.{tableSize, wordsSize, halvesSize}
+use Rattle.lalr.specs.Answer.{Answer, made, refused, Generated}
+use Rattle.lalr.specs.ComputedAnswer.{cardAnswer, tableOf}
+use Rattle.lalr.specs.ComputedGenerator.{answerOf, writes, tableLeft, generated}
 use Rattle.lalr.specs.Meaning.{Judged}
+pub use Rattle.lalr.specs.Demand2.{Room}
 use Rattle.lalr.proofs.AreaLaws.{covered-length}
 use Rattle.lalr.proofs.Main.{card-answer, only-table}
 
@@ -63,28 +67,23 @@ covers n l area area′ h k c = ext-getD 0 area′ (covered n l area) (c .long �
 
 -- ---- the answer
 
--- the areas are long enough: the card decides
-pub record Room (t z w : List ℕ) : Type 0 where
-  pub table : 32004 ≤ length t
-  pub words : 8192 ≤ length z
-  pub halves : 16384 ≤ length w
-
+-- with long enough areas the card decides
 pub by-card : (t z w c : List ℕ) → Room t z w → (a : Answer) → cardAnswer c ≡ a → generated t z w c .answer ≡ a
 unfolding generated answerOf
-by-card t z w c o a e = rw (le-ltb (length t) 32004 (o .table), answerOf, le-ltb (length z) 8192 (o .words), le-ltb (length w) 16384 (o .halves)) e
+by-card t z w c o a e = rw (le-ltb (length t) tableSize (o .table), answerOf, le-ltb (length z) wordsSize (o .words), le-ltb (length w) halvesSize (o .halves)) e
 
 -- refusals 1, 2, 3
-pub short-table : (t z w c : List ℕ) → length t < 32004 → generated t z w c .answer ≡ refused 1
+pub short-table : (t z w c : List ℕ) → length t < tableSize → generated t z w c .answer ≡ refused 1
 unfolding generated answerOf
-short-table t z w c h = rw (lt-ltb (length t) 32004 h, answerOf) refl
+short-table t z w c h = rw (lt-ltb (length t) tableSize h, answerOf) refl
 
-pub short-words : (t z w c : List ℕ) → 32004 ≤ length t → length z < 8192 → generated t z w c .answer ≡ refused 2
+pub short-words : (t z w c : List ℕ) → tableSize ≤ length t → length z < wordsSize → generated t z w c .answer ≡ refused 2
 unfolding generated answerOf
-short-words t z w c h k = rw (le-ltb (length t) 32004 h, answerOf, lt-ltb (length z) 8192 k) refl
+short-words t z w c h k = rw (le-ltb (length t) tableSize h, answerOf, lt-ltb (length z) wordsSize k) refl
 
-pub short-halves : (t z w c : List ℕ) → 32004 ≤ length t → 8192 ≤ length z → length w < 16384 → generated t z w c .answer ≡ refused 3
+pub short-halves : (t z w c : List ℕ) → tableSize ≤ length t → wordsSize ≤ length z → length w < halvesSize → generated t z w c .answer ≡ refused 3
 unfolding generated answerOf
-short-halves t z w c h k l = rw (le-ltb (length t) 32004 h, answerOf, le-ltb (length z) 8192 k, lt-ltb (length w) 16384 l) refl
+short-halves t z w c h k l = rw (le-ltb (length t) tableSize h, answerOf, le-ltb (length z) wordsSize k, lt-ltb (length w) halvesSize l) refl
 
 -- an answer with its areas: 1 to 10 leave them, the others cover them
 pub left-alone : (t z w c : List ℕ) (a : Answer) → generated t z w c .answer ≡ a → writes a ≡ false → generated t z w c ≡ record { answer = a; table = t; words = z; halves = w }
@@ -92,7 +91,7 @@ unfolding generated
 left-alone t z w c a e n = rw (e, n) refl
 
 pub all-covered : (t z w c : List ℕ) (a : Answer) → generated t z w c .answer ≡ a → writes a ≡ true
-    → generated t z w c ≡ record { answer = a; table = covered 32004 (tableLeft a c) t; words = covered 8192 [] z; halves = covered 16384 [] w }
+    → generated t z w c ≡ record { answer = a; table = covered tableSize (tableLeft a c) t; words = covered wordsSize [] z; halves = covered halvesSize [] w }
 unfolding generated
 all-covered t z w c a e n = rw (e, n) refl
 

@@ -14,12 +14,13 @@ use Rattle.grammar.specs.Grammar.{Grammar, Formed, Symbols, Derives}
 use Rattle.grammar.proofs.Yield.{Yields, nil, terminal, nonterminal, append, Split, parts, split}
 use Rattle.grammar.proofs.Derive.{derives-yields, yields-derives}
 use Rattle.lr.proofs.ItemLaws.{AllProductive, all-made}
+use Rattle.lr.specs.Sets
 use Rattle.lr.specs.Items
 use Rattle.lr.proofs.Firsts.{FirstYields, yields, empty, first-yields, first-begins, first-follows}
 use Rattle.sets.specs.Bit.{bit}
-use Rattle.lalr.specs.Sets.{withAll, when}
-use Rattle.lalr.specs.Nonterminals.{size, nullables, mayBegin, firstNext, firsts, inFirst}
-use Rattle.lalr.specs.Sets.{upFrom}
+use Rattle.lalr.specs.ComputedSets.{withAll, when}
+use Rattle.lalr.specs.ComputedNonterminals.{size, nullables, mayBegin, firstNext, firsts, inFirst}
+use Rattle.lalr.specs.ComputedSets.{upFrom}
 use Rattle.lalr.proofs.Members.{All, all-stay}
 use Rattle.lalr.proofs.Reach.{reach-only, reach-all, reach-start}
 use Rattle.lalr.proofs.Lists.{not-true, not-cons, up-in, up-from, all-of, all-in, set-of, each-in, each-from, From, from, when-in, when-from}
@@ -160,18 +161,18 @@ module _ (g : Grammar) where
         back (starts y) = let t = led y refl hb in rw (one x (t .by) (t .may)) (t .there)
 
     -- FIRST of a string
-    first-more : {x a b : ℕ} {β : List ℕ} → Derives g (x ∷ []) [] → FirstYields g β a b → Items.First g (x ∷ β) a b
+    first-more : {x a b : ℕ} {β : List ℕ} → Derives g (x ∷ []) [] → FirstYields g β a b → Sets.First g (x ∷ β) a b
     first-more d (yields z) = first-begins g (append g (derives-yields g d Symbols.none .1) z)
     first-more d (empty z q) = first-follows g (append g (derives-yields g d Symbols.none .1) z) q
 
-    first-here : {x a b : ℕ} {β : List ℕ} → Symbols (g.terminals + g.nonterminals) β → Starts (x ∷ []) b → Items.First g (x ∷ β) a b
+    first-here : {x a b : ℕ} {β : List ℕ} → Symbols (g.terminals + g.nonterminals) β → Starts (x ∷ []) b → Sets.First g (x ∷ β) a b
     first-here s (starts y) = let m = all-made g f pr s in first-begins g (append g y (m .2))
 
-    pub in-sound : (a b : ℕ) → b < T → {β : List ℕ} → Symbols (g.terminals + g.nonterminals) β → inFirst g e (firsts g) β a b ≡ true → Items.First g β a b
+    pub in-sound : (a b : ℕ) → b < T → {β : List ℕ} → Symbols (g.terminals + g.nonterminals) β → inFirst g e (firsts g) β a b ≡ true → Sets.First g β a b
     in-sound a b hb Symbols.none h = first-follows g nil (eqb-true b a h)
     in-sound a b hb (Symbols.more {a = x} {w = β} h₁ h₂ s) h = go (bit (firsts g) (x * T + b)) (bit e x) refl refl (λ k. in-sound a b hb s k)
       where
-        go : (c d : Bool) → bit (firsts g) (x * T + b) ≡ c → bit e x ≡ d → (inFirst g e (firsts g) β a b ≡ true → Items.First g β a b) → Items.First g (x ∷ β) a b
+        go : (c d : Bool) → bit (firsts g) (x * T + b) ≡ c → bit e x ≡ d → (inFirst g e (firsts g) β a b ≡ true → Sets.First g β a b) → Sets.First g (x ∷ β) a b
         go true d q k ih = first-here s (firsts-exact x b hb .0 q)
         go false true q k ih = first-more (nullables-exact g f x .0 k) (first-yields g (ih (rw (q, inFirst, k) at h)))
         go false false q k ih = absurd (not-true (rw (q, inFirst, k) at h) refl)

@@ -15,9 +15,9 @@ use Rattle.grammar.specs.Grammar.{Grammar}
 use Rattle.lr.proofs.Automaton.{CoreClosure, given, opened, CoreAdvanced, advanced, Goes, goes, CoreStart, core-start}
 use Rattle.sets.specs.Lists.{each}
 use Rattle.sets.specs.Bit.{bit}
-use Rattle.lalr.specs.Sets.{when}
+use Rattle.lalr.specs.ComputedSets.{when}
 use mathlib.Core.Bool.{_&&_}
-use Rattle.lalr.specs.Lalr.{first, total, restIn, restAt, startsOf, opens, closure, advance, goto, start, startsWith}
+use Rattle.lalr.specs.ComputedStates.{first, total, restIn, restAt, startsOf, opens, closure, advance, goto, start, startsWith}
 use Rattle.sets.proofs.BitLaws.{bit-zero}
 use Rattle.lalr.proofs.Members.{All, none, all-stay, has-power, has-power-only}
 use Rattle.lalr.proofs.Reach.{reach-only, reach-all, reach-start, reach-small}

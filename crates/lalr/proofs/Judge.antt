@@ -3,27 +3,28 @@ use mathlib.Core.Path.{_≡_, refl, sym, ap, _∙_, subst}
 use mathlib.Core.Bool.{Bool, true, false}
 use mathlib.Core.Logic.{_↔_, _≢_, _⊎_, inl, inr}
 use mathlib.Core.List.{List, [], _∷_}
-use Prim.Native.Nat.{ℕ, suc, _+_, _≤_, _<_}
+use Prim.Native.Nat.{ℕ, _+_, _≤_, _<_}
 use native.Mathlib.Omega.{arith}
 use native.Mathlib.Decide.{ℕ-discrete, decLt}
 use lib.ListN.{length, getD}
 use lib.Dec.{ltb}
 use borrow.Author.Tests.{ltb-true, ltb-false}
 use Rattle.grammar.specs.Grammar.{Grammar, Formed}
-use Rattle.lr.specs.Items
 use Rattle.lr.proofs.ItemLaws.{AllProductive}
 use Rattle.lr.proofs.Automaton.{Automaton, walk}
 use Rattle.grammar.specs.Useful.{Useful, Nonterminal}
 use Rattle.sets.specs.Lists.{each}
 use Rattle.lr.specs.States.{countTransitions, States, MoreStates, nonterminalTransitions}
 use Rattle.tables.specs.Conflicts.{Conflict, Single, Before}
-use Rattle.lr.specs.Cells.{Action, shifts, reduces, accepts}
-use Rattle.lr.proofs.Unique.{pigeon, count-le, next-same, compare, same, one-right}
+use Rattle.lr.specs.Cells.{Action}
+use Rattle.lr.proofs.Unique.{pigeon, next-same, compare}
+use Rattle.lr.proofs.OneTable.{same-count, action-same}
 use Rattle.grammar.specs.Card.{formFault, grammarOf}
-use Rattle.lalr.specs.Nonterminals.{uselessNonterminal}
-use Rattle.lalr.specs.Lalr
-use Rattle.lalr.specs.Lalr.{states, facts, actions}
-use Rattle.lalr.specs.Generator.{Answer, uselessAt, conflict, judge, grammarAnswer}
+use Rattle.lalr.specs.ComputedNonterminals.{uselessNonterminal}
+use Rattle.lalr.specs.ComputedStates
+use Rattle.lalr.specs.ComputedStates.{states, facts, actions}
+use Rattle.lalr.specs.Answer.{Answer, uselessAt, conflict}
+use Rattle.lalr.specs.ComputedAnswer.{judge, grammarAnswer}
 use Rattle.lalr.specs.Meaning.{AllUseful, Judged, useless, many, wide, clash, fine}
 use Rattle.sets.proofs.ListLaws.{each-same}
 use Rattle.lalr.proofs.ItemLaws.{In}
@@ -40,7 +41,7 @@ module _ (g : Grammar) (f : Formed g) where
   count = length rows
 
   abbrev next : ℕ → ℕ → ℕ
-  next q x = Lalr.goes g rows q x
+  next q x = ComputedStates.goes g rows q x
 
   abbrev pub holds : ℕ → ℕ → ℕ → Type 0
   holds q r d = In g (getD (states g .sets) q 0) r d
@@ -90,47 +91,34 @@ module _ (g : Grammar) where
       (λ i j hi hj e. m .apart i j hi hj (st .merged (m .viable i hi) (m .viable j hj) .0 e))
 
   module _ {count : ℕ} {next : ℕ → ℕ → ℕ} (st : States g count next) {count′ : ℕ} {next′ : ℕ → ℕ → ℕ} (st′ : States g count′ next′) where
-    same-count : count ≡ count′
-    same-count = let a : count ≤ count′ = count-le g count next st count′ next′ st′ in let b : count′ ≤ count = count-le g count′ next′ st′ count next st in omega arith
-
-    walk-same : {γ : List ℕ} → Items.Viable g γ → walk next 0 γ ≡ walk next′ 0 γ
-    walk-same {γ} v =
-        one-right g count next st count′ next′ st′ {q = walk next 0 γ} (same g count next st count′ next′ st′ (suc (walk next 0 γ)) (walk next 0 γ) (omega arith) (st .below v))
-        (record { path = γ; viable = v; leads = refl; leads′ = refl })
-
-    action-same : {q m v : ℕ} → q < count → Action g next q m v → Action g next′ q m v
-    action-same {q} {m} h (shifts k nz) = let e : next q m ≡ next′ q m = next-same g count next st count′ next′ st′ q m h in rw e (shifts k (rw e at nz))
-    action-same h (reduces r k a) = reduces r k (record { path = a .path; leads = sym (walk-same (Items.by-item (Items.with-lookahead (a .item)))) ∙ a .leads; item = a .item })
-    action-same h (accepts a) = accepts (record { path = a .path; leads = sym (walk-same (Items.by-item (Items.with-lookahead (a .item)))) ∙ a .leads; item = a .item })
-
     transitions-same : nonterminalTransitions g count next ≡ nonterminalTransitions g count′ next′
     transitions-same =
         ap countTransitions (each-same count (λ q. each g.nonterminals (λ x. next q (g.terminals + x) ∷ [])) (λ q. each g.nonterminals (λ x. next′ q (g.terminals + x) ∷ [])) (λ q h. each-same g.nonterminals (λ x. next q (g.terminals + x) ∷ []) (λ x. next′ q (g.terminals + x) ∷ []) (λ x k. ap (λ (n : ℕ). n ∷ []) (next-same g count next st count′ next′ st′ q (g.terminals + x) h))))
-        ∙ ap (λ (n : ℕ). nonterminalTransitions g n next′) same-count
+        ∙ ap (λ (n : ℕ). nonterminalTransitions g n next′) (same-count g st st′)
 
   module _ {count : ℕ} {next : ℕ → ℕ → ℕ} (st : States g count next) {count′ : ℕ} {next′ : ℕ → ℕ → ℕ} (st′ : States g count′ next′) where
     -- a cell with two actions is not before the first such cell
-    not-before : {q m v w q′ m′ v′ w′ : ℕ} → Conflict (Action g next) count g.terminals q m v w → Conflict (Action g next′) count′ g.terminals q′ m′ v′ w′ → Before q m q′ m′ → ⊥
+    not-before : {q m v w q′ m′ v′ w′ : ℕ} → Conflict (Action g next) count g.terminals q m v w → Conflict (Action g next′) count′ g.terminals q′ m′ v′ w′ → Before q′ m′ q m → ⊥
     not-before {q′ = q′} {m′ = m′} {v′ = v′} {w′ = w′} c d b =
         let h = d .state in
-        let e : count ≡ count′ = same-count st st′ in
-        let z = c .before q′ m′ (rw e (d .state)) (d .terminal) b .only v′ w′ (action-same st′ st h (d .numbers .first)) (action-same st′ st h (d .numbers .second)) in
+        let e : count ≡ count′ = same-count g st st′ in
+        let z = c .before q′ m′ (rw e (d .state)) (d .terminal) b .only v′ w′ (action-same g st′ st h (d .numbers .first)) (action-same g st′ st h (d .numbers .second)) in
         omega (arith, d .numbers .lower)
 
   module _ {count : ℕ} {next : ℕ → ℕ → ℕ} (st : States g count next) {count′ : ℕ} {next′ : ℕ → ℕ → ℕ} (st′ : States g count′ next′) where
     same-cell : {q m v w q′ m′ v′ w′ : ℕ} → Conflict (Action g next) count g.terminals q m v w → Conflict (Action g next′) count′ g.terminals q′ m′ v′ w′ → (q′ ≡ q) × (m′ ≡ m)
     same-cell {q} {m} {q′ = q′} {m′ = m′} c d = go (compare q m q′ m′)
       where
-        go : Before q m q′ m′ ⊎ (((q′ ≡ q) × (m′ ≡ m)) ⊎ Before q′ m′ q m) → (q′ ≡ q) × (m′ ≡ m)
+        go : Before q′ m′ q m ⊎ (((q′ ≡ q) × (m′ ≡ m)) ⊎ Before q m q′ m′) → (q′ ≡ q) × (m′ ≡ m)
         go (inl b) = absurd (not-before st st′ c d b)
         go (inr (inl e)) = e
         go (inr (inr b)) = absurd (not-before st′ st d c b)
 
     second-le : {q m v w v′ w′ : ℕ} → Conflict (Action g next) count g.terminals q m v w → Conflict (Action g next′) count′ g.terminals q m v′ w′ → v′ ≡ v → w ≤ w′
-    second-le {v = v} {w′ = w′} c d e = c .numbers .lowest w′ (action-same st′ st (d .state) (d .numbers .second)) (λ z. (let l = d .numbers .lower in omega arith))
+    second-le {v = v} {w′ = w′} c d e = c .numbers .lowest w′ (action-same g st′ st (d .state) (d .numbers .second)) (λ z. (let l = d .numbers .lower in omega arith))
 
     first-le : {q m v w v′ w′ : ℕ} → Conflict (Action g next) count g.terminals q m v w → Conflict (Action g next′) count′ g.terminals q m v′ w′ → v′ ≢ v → w ≤ v′
-    first-le {v′ = v′} c d ne = c .numbers .lowest v′ (action-same st′ st (d .state) (d .numbers .first)) ne
+    first-le {v′ = v′} c d ne = c .numbers .lowest v′ (action-same g st′ st (d .state) (d .numbers .first)) ne
 
   conflict-one : {count : ℕ} {next : ℕ → ℕ → ℕ} (st : States g count next) {count′ : ℕ} {next′ : ℕ → ℕ → ℕ} (st′ : States g count′ next′) {q m v w q′ m′ v′ w′ : ℕ}
       → Conflict (Action g next) count g.terminals q m v w → Conflict (Action g next′) count′ g.terminals q′ m′ v′ w′ → conflict q m v w ≡ conflict q′ m′ v′ w′
@@ -149,7 +137,7 @@ module _ (g : Grammar) where
   both-ways : {count : ℕ} {next : ℕ → ℕ → ℕ} (st : States g count next) {count′ : ℕ} {next′ : ℕ → ℕ → ℕ} (st′ : States g count′ next′) {q m v w : ℕ}
       → Conflict (Action g next) count g.terminals q m v w → ((q m : ℕ) → q < count′ → m < g.terminals → Single (Action g next′ q m)) → ⊥
   both-ways st st′ {q} {m} {v} {w} c s =
-      let z = s q m (rw (← same-count st st′) (c .state)) (c .terminal) .only v w (action-same st st′ (c .state) (c .numbers .first)) (action-same st st′ (c .state) (c .numbers .second)) in
+      let z = s q m (rw (← same-count g st st′) (c .state)) (c .terminal) .only v w (action-same g st st′ (c .state) (c .numbers .first)) (action-same g st st′ (c .state) (c .numbers .second)) in
       omega (arith, c .numbers .lower)
 
   same-useless : {x y : ℕ} → Nonterminal g x → (Useful g x → ⊥) → ((z : ℕ) → Nonterminal g z → z < x → Useful g z) → Nonterminal g y → (Useful g y → ⊥) → ((z : ℕ) → Nonterminal g z → z < y → Useful g z) → x ≡ y

@@ -5,7 +5,7 @@ use Prim.Native.Nat.{ℕ, zero, suc, _+_, _^_, _≤_, _<_}
 use native.Mathlib.Omega.{arith}
 use lib.Dec.{eqb}
 use borrow.Author.Tests.{eqb-true, eqb-false}
-use Rattle.lalr.specs.Sets.{settle, least}
+use Rattle.lalr.specs.ComputedSets.{settle, least}
 
 module _ (step : ℕ → ℕ) where
   settle-true : (n s : ℕ) → eqb (step s) s ≡ true → settle step (suc n) s ≡ s

@@ -17,3 +17,6 @@ pub mod Main
 pub mod AreaLaws
 pub mod OrderLaws
 pub mod Finish
+pub mod Demand2
+pub mod Generates
+pub mod AnswerLaws

@@ -12,8 +12,8 @@ use lib.Seq.{getD-append-add}
 use lib.Arith.{digits-lt}
 use Rattle.sets.specs.Lists.{each}
 use Rattle.sets.specs.Bit.{bit}
-use Rattle.lalr.specs.Sets.{with′, withAll, when}
-use Rattle.lalr.specs.Sets.{upFrom}
+use Rattle.lalr.specs.ComputedSets.{with′, withAll, when}
+use Rattle.lalr.specs.ComputedSets.{upFrom}
 use Rattle.sets.proofs.BitLaws.{bit-zero}
 use Rattle.lalr.proofs.Members.{All, none, some, has-with-same, all-keep, all-members}
 

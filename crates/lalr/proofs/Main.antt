@@ -16,20 +16,24 @@ use Rattle.grammar.proofs.Derive.{derives-yields}
 use Rattle.grammar.proofs.CardLaws.{WellFormed, well-formed, formed, right-short}
 use Rattle.tables.specs.Layout as layout
 use Rattle.tables.specs.Layout.{cellOf}
+use Rattle.areas.specs.Areas.{tableSize}
 use Rattle.lr.specs.Items
-use Rattle.lr.specs.Items.{walk, First, Lookahead}
+use Rattle.lr.specs.Items.{walk, Lookahead}
+use Rattle.lr.specs.Sets.{First}
 use Rattle.lr.specs.States.{States}
 use Rattle.lr.specs.Cells.{Table}
-use Rattle.lr.specs.Relations.{Lookback}
+use Rattle.lr.specs.Relations.{LA}
 use Rattle.lr.proofs.Firsts.{first-yields}
 use Rattle.lr.proofs.ItemLaws.{AllProductive, all-productive}
-use Rattle.lr.proofs.Paths.{merged-exact}
+use Rattle.lr.proofs.Paths.{merged-exact, state-automaton}
+use Rattle.lr.proofs.CellLaws.{cell-reduces}
 use Rattle.lr.proofs.OneTable.{one-table, numbers-small, width-is}
 use Rattle.lr.proofs.ShortWay
-use Rattle.lalr.specs.Nonterminals.{nullables, productive, reachable, firsts, inFirst}
-use Rattle.lalr.specs.Lalr
-use Rattle.lalr.specs.Lalr.{states}
-use Rattle.lalr.specs.Generator.{Answer, made, grammarAnswer, cardAnswer, tableOf}
+use Rattle.lalr.specs.ComputedNonterminals.{nullables, productive, reachable, firsts, inFirst}
+use Rattle.lalr.specs.ComputedStates
+use Rattle.lalr.specs.ComputedStates.{states}
+use Rattle.lalr.specs.Answer.{Answer, made}
+use Rattle.lalr.specs.ComputedAnswer.{grammarAnswer, cardAnswer, tableOf}
 use Rattle.lalr.specs.Meaning.{Judged, AllUseful}
 use Rattle.lalr.proofs.NonterminalLaws.{nullables-exact, productive-exact}
 use Rattle.lalr.proofs.UsefulLaws
@@ -66,10 +70,10 @@ module _ (c : List ℕ) (h : formFault c ≡ 0) where
 
     module _ (few : length (states (grammarOf c) .rows) ≤ 256) where
       abbrev next : ℕ → ℕ → ℕ
-      next q x = Lalr.goes (grammarOf c) (states (grammarOf c) .rows) q x
+      next q x = ComputedStates.goes (grammarOf c) (states (grammarOf c) .rows) q x
 
       -- the numbered states are the cores of the canonical sets, each once, in the paper's order
-      pub states-are : States (grammarOf c) (length (states (grammarOf c) .rows)) (Lalr.goes (grammarOf c) (states (grammarOf c) .rows))
+      pub states-are : States (grammarOf c) (length (states (grammarOf c) .rows)) (ComputedStates.goes (grammarOf c) (states (grammarOf c) .rows))
       states-are = Judge.built-states (grammarOf c) f made-all few
 
       inside : (q x : ℕ) → next q x ≢ 0 → q < length (states (grammarOf c) .rows)
@@ -81,7 +85,7 @@ module _ (c : List ℕ) (h : formFault c ≡ 0) where
 
       -- the short way of 001 gives the lookaheads of the merged sets
       pub short-way : (q s m : ℕ) → s < productions c
-          → Lookahead (grammarOf c) (Lalr.goes (grammarOf c) (states (grammarOf c) .rows)) q s m ↔ Lookback (grammarOf c) (Lalr.goes (grammarOf c) (states (grammarOf c) .rows)) q s m
+          → Lookahead (grammarOf c) (ComputedStates.goes (grammarOf c) (states (grammarOf c) .rows)) q s m ↔ LA (grammarOf c) (ComputedStates.goes (grammarOf c) (states (grammarOf c) .rows)) q s m
       short-way q s m k = ShortWay.short-way (grammarOf c) f made-all (length (states (grammarOf c) .rows)) next states-are inside q s m k
 
 -- a card that gets a table
@@ -93,19 +97,19 @@ module _ (c : List ℕ) (m : cardAnswer c ≡ made) where
   productions-few = the-form c mk .limits .productions-to
 
   -- the table is the definition's, and no other list is
-  pub card-table : Table (grammarOf c) (length (states (grammarOf c) .rows)) (Lalr.goes (grammarOf c) (states (grammarOf c) .rows)) (tableOf c)
+  pub card-table : Table (grammarOf c) (length (states (grammarOf c) .rows)) (ComputedStates.goes (grammarOf c) (states (grammarOf c) .rows)) (tableOf c)
   card-table = table-is c mk
 
   pub only-table : (l : List ℕ) {count : ℕ} {next : ℕ → ℕ → ℕ} → Table (grammarOf c) count next l → tableOf c ≡ l
-  only-table l t = one-table (grammarOf c) (the-formed c mk) (the-productive c mk) productions-few (mk .few) card-table t
+  only-table l t = one-table (grammarOf c) (the-formed c mk) card-table t
 
   -- it fits its area
-  pub table-fits : length (tableOf c) ≤ 32004
+  pub table-fits : length (tableOf c) ≤ tableSize
   unfolding layout.sizeOf
   table-fits =
       let l = the-form c mk .limits in
       let z = card-table .sizes in
-      let w : layout.width (tableOf c) ≤ 124 = omega (arith, width-is (grammarOf c) (the-formed c mk) (length (states (grammarOf c) .rows)) (Lalr.goes (grammarOf c) (states (grammarOf c) .rows)) (tableOf c) card-table, l .terminals-to, l .nonterminals-to) in
+      let w : layout.width (tableOf c) ≤ 124 = omega (arith, width-is (grammarOf c) (the-formed c mk) (length (states (grammarOf c) .rows)) (ComputedStates.goes (grammarOf c) (states (grammarOf c) .rows)) (tableOf c) card-table, l .terminals-to, l .nonterminals-to) in
       let n : layout.states (tableOf c) ≤ 256 = omega (arith, z .0, mk .few) in
       let p : layout.states (tableOf c) * layout.width (tableOf c) ≤ 256 * 124 = mul-le-mul n w in
       omega (arith, card-table .long, z .3, productions-few)
@@ -115,13 +119,14 @@ module _ (c : List ℕ) (m : cardAnswer c ≡ made) where
   table-words =
       let l = the-form c mk .limits in
       numbers-small (grammarOf c) (the-formed c mk) (the-productive c mk) productions-few (omega (arith, l .terminals-to, l .nonterminals-to)) (λ r h. (let s = right-short c (the-form c mk) r h in omega arith))
-      (length (states (grammarOf c) .rows)) (mk .few) (Lalr.goes (grammarOf c) (states (grammarOf c) .rows)) (tableOf c) card-table
+      (length (states (grammarOf c) .rows)) (mk .few) (ComputedStates.goes (grammarOf c) (states (grammarOf c) .rows)) (tableOf c) card-table
 
   -- the reductions, in the words of merging by core
   pub card-reduce : (γ : List ℕ) (r a : ℕ) → Items.Viable (grammarOf c) γ → r < productions c → a < terminals c
-      → (cellOf (tableOf c) (walk (Lalr.goes (grammarOf c) (states (grammarOf c) .rows)) 0 γ) a ≡ 1024 + r) ↔ Items.Merged (grammarOf c) γ r (length (grammarOf c .right r)) a
+      → (cellOf (tableOf c) (walk (ComputedStates.goes (grammarOf c) (states (grammarOf c) .rows)) 0 γ) a ≡ layout.reduction r) ↔ Items.Merged (grammarOf c) γ r (length (grammarOf c .right r)) a
   card-reduce γ r a v h k =
-      let next : ℕ → ℕ → ℕ = Lalr.goes (grammarOf c) (states (grammarOf c) .rows) in
-      let t = card-table .terminals (walk next 0 γ) a (card-table .states .below v) k .reduce r h in
+      let next : ℕ → ℕ → ℕ = ComputedStates.goes (grammarOf c) (states (grammarOf c) .rows) in
+      let low : next (walk next 0 γ) a < 1024 = omega (arith, state-automaton (grammarOf c) (the-formed c mk) (the-productive c mk) (length (states (grammarOf c) .rows)) next (card-table .states) .next-below {x = a} (card-table .states .below v), mk .few) in
+      let t = cell-reduces (grammarOf c) productions-few low (card-table .terminals (walk next 0 γ) a (card-table .states .below v) k) h in
       let u = merged-exact (grammarOf c) (the-formed c mk) (the-productive c mk) (length (states (grammarOf c) .rows)) next (card-table .states) v in
       (λ e. u .0 (t .0 e), λ b. t .1 (u .1 b))

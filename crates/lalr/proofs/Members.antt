@@ -12,7 +12,7 @@ use lib.Dec.{eqb}
 use borrow.Author.Tests.{eq-eqb, ne-eqb, eqb-true}
 use Rattle.sets.specs.Bit.{bit}
 use Rattle.sets.proofs.BitLaws.{bit-or, bit-and, bit-pow, bit-zero, bits-eq}
-use Rattle.lalr.specs.Sets.{with′, withAll}
+use Rattle.lalr.specs.ComputedSets.{with′, withAll}
 
 -- `with′` is the union with one member
 with-or : (s k : ℕ) → with′ s k ≡ bitOr s (2 ^ k)

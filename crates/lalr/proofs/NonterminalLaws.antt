@@ -11,10 +11,10 @@ use Rattle.grammar.specs.Grammar.{Grammar, Formed, Derives}
 use Rattle.grammar.specs.Useful.{Productive}
 use Rattle.grammar.proofs.Closed
 use Rattle.sets.specs.Bit.{bit}
-use Rattle.lalr.specs.Sets.{with′, withAll, sweep}
-use Rattle.lalr.specs.Sets.{every}
-use Rattle.lalr.specs.Nonterminals.{size, learn, learned, nullables, productive}
-use Rattle.lalr.specs.Sets.{upFrom}
+use Rattle.lalr.specs.ComputedSets.{with′, withAll, sweep}
+use Rattle.lalr.specs.ComputedSets.{every}
+use Rattle.lalr.specs.ComputedNonterminals.{size, learn, learned, nullables, productive}
+use Rattle.lalr.specs.ComputedSets.{upFrom}
 use Rattle.sets.proofs.BitLaws.{bit-zero}
 use Rattle.lalr.proofs.Members.{All, none, some, has-with-same, with-grows, with-stays, with-keeps, all-stay, all-members}
 use Rattle.lalr.proofs.Least.{settle-keeps, least-still}

@@ -7,7 +7,7 @@ use native.Mathlib.Omega.{arith}
 use native.Mathlib.Nat.{le-refl, le-trans}
 use native.Mathlib.Decide.{ℕ-discrete}
 use Rattle.sets.specs.Bit.{bit}
-use Rattle.lalr.specs.Sets.{withAll, sweep, visit as visitOf, reach as reachOf}
+use Rattle.lalr.specs.ComputedSets.{withAll, sweep, visit as visitOf, reach as reachOf}
 use Rattle.lalr.proofs.Members.{All, all-grow, all-stay, has-of-all, all-members, all-keep}
 use Rattle.lalr.proofs.Least.{settle-keeps, least-still}
 

@@ -9,15 +9,17 @@ use native.Mathlib.Decide.{ℕ-discrete, decLt}
 use lib.ListN.{length, getD, drop, List·getD-eq-default}
 use lib.Seq.{ext-getD}
 use Rattle.grammar.specs.Grammar.{Grammar, Formed, Symbols}
+use Rattle.lr.proofs.Canonical.{Canonical, in-core, by-path, start-viable}
 use Rattle.lr.specs.Items
 use Rattle.lr.proofs.ItemLaws.{AllProductive}
 use Rattle.lr.proofs.Automaton.{Automaton, CoreClosure, given, opened, CoreAdvanced, advanced, Goes, goes, CoreStart, core-start, walk, has-of, item-of, same-state, same-core}
 use Rattle.lr.proofs.RelationLaws.{went, after-viable}
-use Rattle.lr.proofs.Paths.{symbols-at, item-opened, closure-items, moved-item, items-behind, items-first}
+use Rattle.lr.proofs.Automaton.{item-opened, closure-items}
+use Rattle.lr.proofs.Paths.{symbols-at, moved-item, items-behind, items-first}
 use Rattle.sets.specs.Lists.{each}
 use Rattle.lr.specs.States.{Taken, rowOf, States, MoreStates}
-use Rattle.lalr.specs.Lalr
-use Rattle.lalr.specs.Lalr.{first, total, goto, start, states, explore}
+use Rattle.lalr.specs.ComputedStates
+use Rattle.lalr.specs.ComputedStates.{first, total, goto, start, states, explore}
 use Rattle.sets.proofs.BitLaws.{bit-zero}
 use Rattle.lalr.proofs.Members.{All, none, some}
 use Rattle.lalr.proofs.Lists.{not-true}
@@ -50,15 +52,15 @@ module _ (g : Grammar) (f : Formed g) (pr : AllProductive g) where
       record {
         small = start-small g;
         path = [];
-        viable = Items.by-item (Items.with-lookahead Items.start);
+        viable = start-viable g;
         items = λ r d. (λ i. closure-items g f pr first-one (start-exact g r d .0 i), λ i. start-exact g r d .1 (back i));
       }
     where
       first-one : (r d : ℕ) → CoreStart g r d → Items.Item g [] r d
-      first-one r d core-start = Items.with-lookahead Items.start
+      first-one r d core-start = in-core Canonical.start
 
       back : {r d : ℕ} → Items.Item g [] r d → CoreClosure g (CoreStart g) r d
-      back (Items.with-lookahead i) = items-first g f pr i refl
+      back (Items.with-lookahead _ i) = items-first g f pr (by-path i) refl
 
   pub keeps : (s x : ℕ) → Good s → goto g s x ≢ 0 → Good (goto g s x)
   keeps s x p ne =
@@ -76,10 +78,10 @@ module _ (g : Grammar) (f : Formed g) (pr : AllProductive g) where
       down r d (advanced {d = d′} i e) = advanced (p .items r d′ .1 i) e
 
       behind : {r d : ℕ} → Items.Item g (p .path ++ x ∷ []) r d → CoreClosure g (CoreAdvanced g (Items.Item g (p .path)) x) r d
-      behind (Items.with-lookahead i) = items-behind g f pr i refl
+      behind (Items.with-lookahead _ i) = items-behind g f pr (by-path i) refl
 
       via₂ : {r d : ℕ} {β : List ℕ} → Items.Item g (p .path) r d → drop d (g.right r) ≡ x ∷ β → Items.Viable g (p .path ++ x ∷ [])
-      via₂ (Items.with-lookahead i) e = Items.by-item (Items.with-lookahead (Items.goto i e))
+      via₂ (Items.with-lookahead _ i) e = Items.by-item (in-core (Canonical.goto (by-path i) e))
 
       via : Goes g (In g s) x → Items.Viable g (p .path ++ x ∷ [])
       via (goes {r} {d} i e) = via₂ (p .items r d .0 i) e
@@ -111,7 +113,7 @@ module _ (g : Grammar) (f : Formed g) (pr : AllProductive g) where
     holds q r d = In g (getD ts q 0) r d
 
     abbrev pub next : ℕ → ℕ → ℕ
-    next q x = Lalr.goes g rows q x
+    next q x = ComputedStates.goes g rows q x
 
     good-at : (q : ℕ) → q < length ts → Good (getD ts q 0)
     good-at q h = all-at (inv .good) q h
@@ -175,13 +177,13 @@ module _ (g : Grammar) (f : Formed g) (pr : AllProductive g) where
         }
 
     viable-below : {γ : List ℕ} → Items.Viable g γ → walk next 0 γ < length ts
-    viable-below (Items.by-item (Items.with-lookahead i)) = has-of g f pr (length ts) holds next automaton i .0
+    viable-below (Items.by-item (Items.with-lookahead _ i)) = has-of g f pr (length ts) holds next automaton (by-path i) .0
 
     item-has : {γ : List ℕ} {r d : ℕ} → Items.Item g γ r d → holds (walk next 0 γ) r d
-    item-has (Items.with-lookahead i) = has-of g f pr (length ts) holds next automaton i .1
+    item-has (Items.with-lookahead _ i) = has-of g f pr (length ts) holds next automaton (by-path i) .1
 
     has-item : {γ : List ℕ} {r d : ℕ} → Items.Viable g γ → holds (walk next 0 γ) r d → Items.Item g γ r d
-    has-item (Items.by-item (Items.with-lookahead i)) h = item-of g f pr (length ts) holds next automaton i h
+    has-item (Items.by-item (Items.with-lookahead _ i)) h = item-of g f pr (length ts) holds next automaton (by-path i) h
 
     leads : (q : ℕ) (h : q < length ts) → walk next 0 (good-at q h .path) ≡ q
     leads q h =
@@ -189,10 +191,10 @@ module _ (g : Grammar) (f : Formed g) (pr : AllProductive g) where
         automaton .distinct {q = walk next 0 (p .path)} {q′ = q} (viable-below (p .viable)) h (λ r d. (λ i. p .items r d .1 (has-item (p .viable) i), λ i. item-has (p .items r d .0 i)))
 
     viable-transitions : (γ : List ℕ) (x : ℕ) → Items.Viable g (γ ++ x ∷ []) → next (walk next 0 γ) x ≢ 0
-    viable-transitions γ x (Items.by-item (Items.with-lookahead i)) = go (items-behind g f pr i refl)
+    viable-transitions γ x (Items.by-item (Items.with-lookahead _ i)) = go (items-behind g f pr (by-path i) refl)
       where
         go : {r d : ℕ} → CoreClosure g (CoreAdvanced g (Items.Item g γ) x) r d → next (walk next 0 γ) x ≢ 0
-        go (given (advanced (Items.with-lookahead j) e)) = let t = has-of g f pr (length ts) holds next automaton j in automaton .next-some (t .0) .1 (goes (t .1) e)
+        go (given (advanced (Items.with-lookahead _ j) e)) = let t = has-of g f pr (length ts) holds next automaton (by-path j) in automaton .next-some (t .0) .1 (goes (t .1) e)
         go (opened c e h) = go c
 
     order : Taken (rowOf g next) (length ts) (length ts)
@@ -219,17 +221,17 @@ module _ (g : Grammar) (f : Formed g) (pr : AllProductive g) where
     pub items : (r d : ℕ) → In g s r d ↔ Items.Item g γ r d
     pub small : s < 2 ^ total g
 
-  on-path : {ts : List ℕ} (a : All Good ts) (i : ℕ) → i < length ts → On (getD ts i 0) (path-at a i)
-  on-path none i h = absurd (omega arith)
-  on-path (some p a) zero h = record { viable = p .viable; items = p .items; small = p .small }
-  on-path (some p a) (suc i) h = on-path a i (omega arith)
+  on-at : {ts : List ℕ} (a : All Good ts) (i : ℕ) → i < length ts → On (getD ts i 0) (path-at a i)
+  on-at none i h = absurd (omega arith)
+  on-at (some p a) zero h = record { viable = p .viable; items = p .items; small = p .small }
+  on-at (some p a) (suc i) h = on-at a i (omega arith)
 
   pub more-states : (n : ℕ) {ts : List ℕ} → All Good ts → Distinct ts → n < length ts → MoreStates g n
   more-states n {ts} a d h =
       record {
         path = path-at a;
-        viable = λ i k. on-path a i (omega arith) .viable;
-        apart = λ i j hi hj s. distinct-at d i j (omega arith) (omega arith) (eq i j (on-path a i (omega arith)) (on-path a j (omega arith)) s);
+        viable = λ i k. on-at a i (omega arith) .viable;
+        apart = λ i j hi hj s. distinct-at d i j (omega arith) (omega arith) (eq i j (on-at a i (omega arith)) (on-at a j (omega arith)) s);
       }
     where
       eq : (i j : ℕ) → On (getD ts i 0) (path-at a i) → On (getD ts j 0) (path-at a j) → Items.SameCore g (path-at a i) (path-at a j) → getD ts i 0 ≡ getD ts j 0

@@ -4,7 +4,7 @@ use Prim.Native.Nat.{ℕ, zero, suc, _+_, _≤_, _<_}
 use native.Mathlib.Omega.{arith}
 use native.Mathlib.Nat.{le-refl, le-trans}
 use native.Mathlib.Decide.{ℕ-discrete}
-use Rattle.lalr.specs.Sets.{sweep}
+use Rattle.lalr.specs.ComputedSets.{sweep}
 
 module _ (f : ℕ → ℕ → ℕ) where
   pub sweep-keeps : (P : ℕ → Type 0) (m : ℕ) → ((i s : ℕ) → i < m → P s → P (f i s)) → (n i s : ℕ) → i + n ≤ m → P s → P (sweep f n i s)

@@ -1,28 +1,29 @@
 -- The table of a card is the table of the definition, number for number, and there is only one.
 use mathlib.Core.Path.{_≡_, refl, sym, ap, _∙_}
+use mathlib.Core.Logic.{_≢_}
 use mathlib.Core.Bool.{Bool, true, false, cond}
 use mathlib.Core.List.{List, [], _∷_, _++_}
 use Prim.Native.Nat.{ℕ, zero, suc, _+_, _*_, _-_, _≤_, _<_}
 use native.Mathlib.Omega.{arith}
 use native.Mathlib.Nat.{mul-one}
-use native.Mathlib.Decide.{ℕ-discrete}
 use lib.ListN.{length, getD, drop, length-append, length-drop, List·getD-append}
 use lib.Seq.{getD-append-add, getD-drop}
 use lib.Dec.{ltb}
 use borrow.Author.Tests.{ltb-false, lt-ltb, le-ltb}
 use Rattle.grammar.specs.Grammar.{Grammar, Formed}
 use Rattle.lr.proofs.ItemLaws.{AllProductive}
-use Rattle.lr.proofs.Automaton.{Automaton, Lookahead}
+use Rattle.lr.proofs.Automaton.{Automaton}
 use Rattle.sets.specs.Lists.{each}
 use Rattle.lr.specs.States.{nonterminalTransitions}
-use Rattle.lr.specs.Cells.{Action, shifts, reduces, accepts, Cell, Table}
+use Rattle.lr.specs.Cells.{Action, Cell, Table}
 use Rattle.grammar.specs.Card.{formFault, grammarOf, leftOf, lengthOf, terminals, nonterminals, productions}
-use Rattle.lalr.specs.Nonterminals.{uselessNonterminal}
-use Rattle.lalr.specs.Lalr
-use Rattle.lalr.specs.Lalr.{states, facts, cell}
-use Rattle.lalr.specs.Generator.{made, refused, uselessAt, conflictOf, judge, grammarAnswer, cardAnswer, tableOf}
+use Rattle.lalr.specs.ComputedNonterminals.{uselessNonterminal}
+use Rattle.lalr.specs.ComputedStates
+use Rattle.lalr.specs.ComputedStates.{states, facts, cell}
+use Rattle.lalr.specs.Answer.{made, refused, uselessAt}
+use Rattle.lalr.specs.ComputedAnswer.{conflictOf, judge, grammarAnswer, cardAnswer, tableOf}
 use Rattle.lalr.proofs.StateLaws
-use Rattle.lalr.proofs.CellLaws.{conflict-search, Short, single-of, cell-action, action-cell, action-positive, no-conflict}
+use Rattle.lalr.proofs.CellLaws.{conflict-search, Short, cell-action, action-cell, no-conflict}
 use Rattle.lalr.proofs.UsefulLaws.{none-useless}
 use Rattle.grammar.proofs.CardLaws.{WellFormed, well-formed, formed, right-length}
 use Rattle.tables.proofs.LayoutLaws.{built-sizes, built-long, built-left, built-length, built-cell}
@@ -33,7 +34,7 @@ pub record Made (c : List ℕ) : Type 0 where
   pub fault : formFault c ≡ 0
   pub useful : terminals c + nonterminals c ≤ uselessNonterminal (grammarOf c)
   pub few : length (states (grammarOf c) .rows) ≤ 256
-  pub narrow : nonterminalTransitions (grammarOf c) (length (states (grammarOf c) .rows)) (Lalr.goes (grammarOf c) (states (grammarOf c) .rows)) ≤ 2048
+  pub narrow : nonterminalTransitions (grammarOf c) (length (states (grammarOf c) .rows)) (ComputedStates.goes (grammarOf c) (states (grammarOf c) .rows)) ≤ 2048
   pub clear : conflictOf (grammarOf c) (states (grammarOf c) .rows) ≡ made
 
 refused-not : {n : ℕ} → refused n ≡ made → ⊥
@@ -48,13 +49,13 @@ made-of c h = go₁ (formFault c) refl
     g : Grammar
     g = grammarOf c
 
-    go₄ : (b : Bool) → formFault c ≡ 0 → ltb (uselessNonterminal (grammarOf c)) (terminals c + nonterminals c) ≡ false → ltb 256 (length (states (grammarOf c) .rows)) ≡ false → ltb 2048 (nonterminalTransitions (grammarOf c) (length (states (grammarOf c) .rows)) (Lalr.goes (grammarOf c) (states (grammarOf c) .rows))) ≡ b → Made c
+    go₄ : (b : Bool) → formFault c ≡ 0 → ltb (uselessNonterminal (grammarOf c)) (terminals c + nonterminals c) ≡ false → ltb 256 (length (states (grammarOf c) .rows)) ≡ false → ltb 2048 (nonterminalTransitions (grammarOf c) (length (states (grammarOf c) .rows)) (ComputedStates.goes (grammarOf c) (states (grammarOf c) .rows))) ≡ b → Made c
     go₄ true e₁ e₂ e₃ e₄ = absurd (refused-not (rw (e₁, cardAnswer, grammarAnswer, e₂, judge, e₃, e₄) at h))
-    go₄ false e₁ e₂ e₃ e₄ = record { fault = e₁; useful = ltb-false (uselessNonterminal (grammarOf c)) (terminals c + nonterminals c) e₂; few = ltb-false 256 (length (states (grammarOf c) .rows)) e₃; narrow = ltb-false 2048 (nonterminalTransitions (grammarOf c) (length (states (grammarOf c) .rows)) (Lalr.goes (grammarOf c) (states (grammarOf c) .rows))) e₄; clear = rw (e₁, cardAnswer, grammarAnswer, e₂, judge, e₃, e₄) at h }
+    go₄ false e₁ e₂ e₃ e₄ = record { fault = e₁; useful = ltb-false (uselessNonterminal (grammarOf c)) (terminals c + nonterminals c) e₂; few = ltb-false 256 (length (states (grammarOf c) .rows)) e₃; narrow = ltb-false 2048 (nonterminalTransitions (grammarOf c) (length (states (grammarOf c) .rows)) (ComputedStates.goes (grammarOf c) (states (grammarOf c) .rows))) e₄; clear = rw (e₁, cardAnswer, grammarAnswer, e₂, judge, e₃, e₄) at h }
 
     go₃ : (b : Bool) → formFault c ≡ 0 → ltb (uselessNonterminal (grammarOf c)) (terminals c + nonterminals c) ≡ false → ltb 256 (length (states (grammarOf c) .rows)) ≡ b → Made c
     go₃ true e₁ e₂ e₃ = absurd (refused-not (rw (e₁, cardAnswer, grammarAnswer, e₂, judge, e₃) at h))
-    go₃ false e₁ e₂ e₃ = go₄ (ltb 2048 (nonterminalTransitions (grammarOf c) (length (states (grammarOf c) .rows)) (Lalr.goes (grammarOf c) (states (grammarOf c) .rows)))) e₁ e₂ e₃ refl
+    go₃ false e₁ e₂ e₃ = go₄ (ltb 2048 (nonterminalTransitions (grammarOf c) (length (states (grammarOf c) .rows)) (ComputedStates.goes (grammarOf c) (states (grammarOf c) .rows)))) e₁ e₂ e₃ refl
 
     go₂ : (b : Bool) → formFault c ≡ 0 → ltb (uselessNonterminal (grammarOf c)) (terminals c + nonterminals c) ≡ b → Made c
     go₂ true e₁ e₂ = absurd (useless-not (rw (e₁, cardAnswer, grammarAnswer, e₂) at h))
@@ -70,55 +71,20 @@ module _ (g : Grammar) (f : Formed g) (pr : AllProductive g) (productions-few : 
   rows = states g .rows
 
   abbrev next : ℕ → ℕ → ℕ
-  next q x = Lalr.goes g rows q x
+  next q x = ComputedStates.goes g rows q x
 
   abbrev au : Automaton g (length rows) (holds g f) next
   au = built g f pr few
 
-  module _ (q m : ℕ) (hq : q < length rows) (hm : m < g.terminals) (s : Short (acts g f q m)) where
+  module _ (q m : ℕ) (hm : m < g.terminals) (s : Short (acts g f q m)) where
     abbrev c : ℕ
     c = cell (acts g f q m)
 
-    to-cell : {v : ℕ} → Action g next q m v → c ≡ v
-    to-cell {v} a = action-cell g f pr rows (holds g f) au few productions-few q m v s a
+    of-cell : (v : ℕ) → v ≢ 0 → c ≡ v → Action g next q m v
+    of-cell v nz e = rw e at (cell-action g f pr rows (holds g f) au few productions-few q m hm (λ z. nz (sym e ∙ z)))
 
-    of-cell : (v : ℕ) → 0 < v → c ≡ v → Action g next q m v
-    of-cell v h e = rw e at (cell-action g f pr rows (holds g f) au few productions-few q m hm (λ z. (let y : c ≡ v = e in let x : c ≡ 0 = z in omega arith)))
-
-    next-small : next q m < 1024
-    next-small = let b : next q m < length rows = au .next-below hq in omega arith
-
-    as-shift : {v t : ℕ} → Action g next q m v → v ≡ t → t < length rows → next q m ≡ t
-    as-shift (shifts h nz) e l = e
-    as-shift (reduces r h a) e l = absurd (omega arith)
-    as-shift (accepts a) e l = absurd (omega arith)
-
-    as-reduce : {v r : ℕ} → Action g next q m v → v ≡ 1024 + r → r < g.productions → Lookahead g next q r m
-    as-reduce (shifts h nz) e l = absurd (let b : next q m < 1024 = next-small in omega arith)
-    as-reduce {r = r} (reduces r′ h a) e l = let k : r′ ≡ r = omega arith in rw k at a
-    as-reduce (accepts a) e l = absurd (omega arith)
-
-    as-accept : {v : ℕ} → Action g next q m v → v ≡ 4096 → Lookahead g next q g.productions m
-    as-accept (shifts h nz) e = absurd (let b : next q m < 1024 = next-small in omega arith)
-    as-accept (reduces r′ h a) e = absurd (omega arith)
-    as-accept (accepts a) e = a
-
-    pub cell-is : Cell g (length rows) next q m c
-    cell-is =
-        record {
-          only = single-of g f pr rows (holds g f) au few productions-few q m hm s;
-          shift = λ t h l. (λ e. as-shift (of-cell t h e) refl l, λ e. to-cell (shifts hm (λ z. (let y : next q m ≡ t = e in let x : next q m ≡ 0 = z in omega arith))) ∙ e);
-          reduce = λ r h. (λ e. as-reduce (of-cell (1024 + r) (omega arith) e) refl h, λ a. to-cell (reduces r h a));
-          accept = (λ e. as-accept (of-cell 4096 (omega arith) e) refl, λ a. to-cell (accepts a));
-          wrong = (λ e v a. (let y : c ≡ v = to-cell a in let p : 1 ≤ v = action-positive g f pr rows (holds g f) au few productions-few q m v hq a in let z : c ≡ 0 = e in omega arith), none-there);
-        }
-      where
-        none-there : ((v : ℕ) → Action g next q m v → ⊥) → c ≡ 0
-        none-there n = go (ℕ-discrete c 0)
-          where
-            go : Dec (c ≡ 0) → c ≡ 0
-            go (yes e) = e
-            go (no ne) = absurd (n c (cell-action g f pr rows (holds g f) au few productions-few q m hm ne))
+    pub cell-is : Cell g next q m c
+    cell-is = record { holds = λ v nz. (λ e. of-cell v nz e, λ a. action-cell g f pr rows (holds g f) au few productions-few q m v s a) }
 
 module _ (c : List ℕ) (mk : Made c) where
   abbrev pub g : Grammar
@@ -134,7 +100,7 @@ module _ (c : List ℕ) (mk : Made c) where
   the-productive = none-useless g the-formed (mk .useful)
 
   abbrev pub transitions : ℕ → ℕ → ℕ
-  transitions q x = Lalr.goes g (states g .rows) q x
+  transitions q x = ComputedStates.goes g (states g .rows) q x
 
   abbrev pub count : ℕ
   count = length (states g .rows)
@@ -168,7 +134,7 @@ module _ (c : List ℕ) (mk : Made c) where
         lengths = λ r h. built-length count (terminals c) (nonterminals c) (productions c) (leftOf c) (lengthOf c) column r h ∙ sym (right-length c r h);
         terminals = λ q m hq hm.
             rw (built-cell count (terminals c) (nonterminals c) (productions c) (leftOf c) (lengthOf c) column q m hq (omega arith) ∙ terminal-cell q m hm)
-            (cell-is g the-formed the-productive productions-few (mk .few) q m hq hm (short q m hq hm));
+            (cell-is g the-formed the-productive productions-few (mk .few) q m hm (short q m hq hm));
         nonterminals = λ q x hq hx.
             built-cell count (terminals c) (nonterminals c) (productions c) (leftOf c) (lengthOf c) column q (terminals c + x) hq (omega arith) ∙ nonterminal-cell q (terminals c + x) (omega arith);
       }

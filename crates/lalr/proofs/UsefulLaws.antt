@@ -14,9 +14,9 @@ use Rattle.lr.proofs.ItemLaws.{AllProductive, all-productive}
 use Rattle.grammar.specs.Useful.{Reachable, LowestUseless}
 use Rattle.grammar.proofs.Closed
 use Rattle.sets.specs.Bit.{bit}
-use Rattle.lalr.specs.Sets.{when}
+use Rattle.lalr.specs.ComputedSets.{when}
 use mathlib.Core.Bool.{_&&_}
-use Rattle.lalr.specs.Nonterminals.{size, productive, reachable, symbolsOf, useless, uselessNonterminal}
+use Rattle.lalr.specs.ComputedNonterminals.{size, productive, reachable, symbolsOf, useless, uselessNonterminal}
 use Rattle.lalr.proofs.Members.{All, none, has-power, has-power-only}
 use Rattle.lalr.proofs.Reach.{reach-only, reach-all, reach-start}
 use Rattle.lalr.proofs.Lists.{not-true, all-of, each-in, each-from, From, from, when-in, when-from}

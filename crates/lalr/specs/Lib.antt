@@ -1,5 +1,9 @@
-pub mod Sets
-pub mod Nonterminals
-pub mod Lalr
-pub mod Generator
+pub mod Answer
 pub mod Meaning
+pub mod ComputedGenerator
+pub mod Demand2
+pub mod Generates
+pub mod ComputedSets
+pub mod ComputedNonterminals
+pub mod ComputedStates
+pub mod ComputedAnswer

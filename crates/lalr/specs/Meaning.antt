@@ -1,11 +1,11 @@
--- What the maker's answer and table mean, by definition alone: nothing here is computed from the card but the grammar.
+-- What the maker's answer means, by definition alone: nothing here is computed from the card but the grammar.
 use Prim.Native.Nat.{ℕ, _≤_, _<_}
 use Rattle.grammar.specs.Grammar.{Grammar}
 use Rattle.grammar.specs.Useful.{Useful, Nonterminal}
 use Rattle.lr.specs.States.{States, MoreStates, nonterminalTransitions}
 use Rattle.tables.specs.Conflicts.{Conflict, Single}
 use Rattle.lr.specs.Cells.{Action}
-use Rattle.lalr.specs.Generator.{Answer, made, refused, uselessAt, conflict}
+use Rattle.lalr.specs.Answer.{Answer, made, refused, uselessAt, conflict}
 
 module _ (g : Grammar) where
   pub record AllUseful : Type 0 where

@@ -9,7 +9,7 @@ use lib.ListN.{length, getD}
 use Rattle.decimal.specs.Digits.{decimalOf}
 use Rattle.decimal.specs.Page.{Page, pageOf, page, wroteByte, wrote}
 use Rattle.decimal.proofs.Written.{wrote-append, wrote-joined, wrote-last, wrote-front}
-use Rattle.tables.specs.Layout.{states, terminals, nonterminals, productions, width}
+use Rattle.tables.specs.Layout.{states, terminals, nonterminals, productions, width, leftAt, lengthAt, headerSize, cellsAt}
 use Rattle.listing.specs.Listing.{spaced, lineOf, rowOf, rowWord, colonWord, tableText, tableWord, leftWord, lengthWord, refusalText, refusedWord}
 use Rattle.listing.specs.Parts.{part, rowFrom, rowsOf}
 use Rattle.listing.proofs.Parts.{part-whole, table-parts}
@@ -57,10 +57,10 @@ pub record Going (t : List ℕ) (count columns : ℕ) (start : Page) (out : List
   pub narrow : columns < 131072
   pub room : from ≤ 131080 + q * 131072
 
-pub rows-start : (t : List ℕ) (count a b p : ℕ) (out : List ℕ) (n : ℕ) → (count ≡ getD t 0 0) × (count < 65536) → (a ≡ getD t 1 0) × (a < 65536)
-    → (b ≡ getD t 2 0) × (b < 65536) → (p ≡ getD t 3 0) × (p < 65536) → Going t count (a + b) (pageOf out n) out (4 + 2 * p) n 0 (length out)
+pub rows-start : (t : List ℕ) (count a b p from : ℕ) (out : List ℕ) (n : ℕ) → (count ≡ getD t 0 0) × (count < 65536) → (a ≡ getD t 1 0) × (a < 65536)
+    → (b ≡ getD t 2 0) × (b < 65536) → (p ≡ getD t 3 0) × (p < 65536) → from ≡ cellsAt p → Going t count (a + b) (pageOf out n) out from n 0 (length out)
 unfolding states terminals nonterminals productions width
-rows-start t count a b p out n e f g h = record {
+rows-start t count a b p from out n e f g h i = record {
   same = (let k : count - 0 ≡ states t = omega arith in rw k refl);
   kept = refl;
   place = rw (zero-mul) (omega arith);
@@ -99,15 +99,17 @@ pub rows-done : (t : List ℕ) (q n : ℕ) (p : Page) → n ≤ q → wrote p (r
 unfolding rowsOf wrote
 rows-done t q n p h = let k : n - q ≡ 0 = omega arith in rw k refl
 
-pub table-done : (t out : List ℕ) (n : ℕ) (a b c d : Page) → n ≡ getD t 3 0 → a ≡ wrote (pageOf out 0) (lineOf tableWord (part t 0 (4 - 0)))
-    → b ≡ wrote a (lineOf leftWord (part t 4 (4 + n - 4))) → c ≡ wrote b (lineOf lengthWord (part t (4 + n) (4 + 2 * n - (4 + n))))
+pub table-done : (t out : List ℕ) (n x y z : ℕ) (a b c d : Page) → n ≡ getD t 3 0 → x ≡ leftAt 0 → y ≡ lengthAt n 0 → z ≡ headerSize n
+    → a ≡ wrote (pageOf out 0) (lineOf tableWord (part t 0 (x - 0))) → b ≡ wrote a (lineOf leftWord (part t x (y - x))) → c ≡ wrote b (lineOf lengthWord (part t y (z - y)))
     → d ≡ wrote c (rowsOf t 0 (states t)) → d ≡ page out (tableText t)
 unfolding productions
-table-done t out n a b c d e f g h i =
-    let k : 4 + n - 4 ≡ n = omega arith in
-    let l : 4 + 2 * n - (4 + n) ≡ n = omega arith in
+table-done t out n x y z a b c d e ex ey ez f g h i =
+    let j : x - 0 ≡ leftAt 0 = omega arith in
+    let k : y - x ≡ n = omega arith in
+    let l : z - y ≡ n = omega arith in
+    let m : y ≡ leftAt n = omega arith in
     rw (table-parts t)
-    (wrote-joined _ a d _ _ f (wrote-joined a b d _ _ (rw (k, e) at g) (wrote-joined b c d _ _ (rw (l, e) at h) i)) ∙ wrote-front out _)
+    (wrote-joined _ a d _ _ (rw j at f) (wrote-joined a b d _ _ (rw (k, ex, e) at g) (wrote-joined b c d _ _ (rw (l, m, e) at h) i)) ∙ wrote-front out _)
 
 pub refusal-done : (ns out : List ℕ) (p : Page) → p ≡ wrote (pageOf out 0) (lineOf refusedWord (part ns 0 (length ns - 0))) → p ≡ page out (refusalText ns)
 unfolding refusalText

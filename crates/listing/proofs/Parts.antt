@@ -9,7 +9,7 @@ use lib.ListN.{length, getD, take, drop}
 use lib.Seq.{drop-cons, take-length}
 use Rattle.sets.specs.Lists.{each}
 use Rattle.sets.proofs.ListLaws.{each-same}
-use Rattle.tables.specs.Layout.{states, terminals, nonterminals, productions, width, leftOf, lengthOf, cellOf}
+use Rattle.tables.specs.Layout.{states, terminals, nonterminals, productions, width, leftAt, leftOf, lengthOf, cellOf}
 use Rattle.listing.specs.Listing.{lineOf, rowOf, tableText, tableWord, leftWord, lengthWord}
 use Rattle.listing.specs.Parts.{part, rowFrom, rowsOf}
 
@@ -50,17 +50,18 @@ module _ (t : List ℕ) where
   each-row zero = refl
   each-row (suc n) = rw (each-row n) (sym (simp zero-add at (rows-last 0 n)))
 
+  -- the lengths begin where the left sides end
   abbrev pub tableParts : List ℕ
   tableParts =
-      lineOf tableWord (part t 0 4)
-      ++ (lineOf leftWord (part t 4 (productions t))
-      ++ (lineOf lengthWord (part t (4 + productions t) (productions t))
+      lineOf tableWord (part t 0 (leftAt 0))
+      ++ (lineOf leftWord (part t (leftAt 0) (productions t))
+      ++ (lineOf lengthWord (part t (leftAt (productions t)) (productions t))
       ++ rowsOf t 0 (states t)))
 
   -- the parts of a table stand one behind the other
   pub table-parts : tableText t ≡ tableParts
   unfolding tableText states terminals nonterminals productions leftOf lengthOf cellOf part
   table-parts =
-      rw (each-part t 4 (productions t), each-part t (4 + productions t) (productions t), ← each-row (states t))
-      (ap (λ (l : List ℕ). lineOf tableWord (part t 0 4) ++ (lineOf leftWord (part t 4 (productions t)) ++ (lineOf lengthWord (part t (4 + productions t) (productions t)) ++ l)))
+      rw (each-part t 4 (productions t), each-part t (leftAt (productions t)) (productions t), ← each-row (states t))
+      (ap (λ (l : List ℕ). lineOf tableWord (part t 0 (leftAt 0)) ++ (lineOf leftWord (part t (leftAt 0) (productions t)) ++ (lineOf lengthWord (part t (leftAt (productions t)) (productions t)) ++ l)))
       (each-same (states t) _ _ (λ q h. ap (rowOf q) (each-part t (rowFrom t q) (width t)))))

@@ -13,7 +13,7 @@ use Rattle.decimal.specs.Digits.{decimalOf}
 use Rattle.decimal.specs.Form.{Separator, blank, line-feed, nil, Numeral, digit, longer, Text, empty, next}
 use Rattle.decimal.proofs.Decimal.{decimal-numeral}
 use Rattle.decimal.proofs.Parse.{led-text}
-use Rattle.tables.specs.Layout.{states, productions, width, sizeOf}
+use Rattle.tables.specs.Layout.{states, productions, width, sizeOf, leftAt}
 use Rattle.listing.specs.Listing.{spaced, lineOf, rowOf, tableText, tableWord, leftWord, lengthWord, colonWord, refusedWord, refusalText}
 use Rattle.listing.specs.Numbers.{isDigit, runs, numbersIn}
 use Rattle.listing.specs.Parts.{part, rowFrom, rowsOf}
@@ -86,23 +86,23 @@ rows-back t q (suc n) =
     rw (row-back q (part t (rowFrom t q) (width t)) (rowsOf t (q + 1) n) (rows-fresh t (q + 1) n), rows-back t (q + 1) n, ← row-next t q (rowFrom t q) (width t) refl refl, e)
     (sym (part-append t (rowFrom t q) (width t) (n * width t)))
 
-parts-join : (t : List ℕ) (n m : ℕ) → part t 0 4 ++ (part t 4 n ++ (part t (4 + n) n ++ part t (4 + n + n) m)) ≡ part t 0 (4 + (n + (n + m)))
-parts-join t n m = rw (part-append t 0 4 (n + (n + m)), part-append t 4 n (n + m), part-append t (4 + n) n m) refl
+parts-join : (t : List ℕ) (n m : ℕ) → part t 0 (leftAt 0) ++ (part t (leftAt 0) n ++ (part t (leftAt n) n ++ part t (leftAt n + n) m)) ≡ part t 0 (leftAt (n + (n + m)))
+parts-join t n m = rw (part-append t 0 (leftAt 0) (n + (n + m)), part-append t (leftAt 0) n (n + m), part-append t (leftAt n) n m) refl
 
 -- the text of a table has the table's numbers: as many as its sizes say
 pub table-back : (t : List ℕ) → numbersIn (tableText t) ≡ part t 0 (sizeOf t)
 unfolding sizeOf lineOf runs isDigit
 table-back t =
     let n : ℕ = productions t in
-    let e : rowFrom t 0 ≡ 4 + n + n = rw zero-mul (omega arith) in
-    let f : sizeOf t ≡ 4 + (n + (n + states t * width t)) = omega arith in
+    let e : rowFrom t 0 ≡ leftAt n + n = rw zero-mul (omega arith) in
+    let f : sizeOf t ≡ leftAt (n + (n + states t * width t)) = omega arith in
     rw (table-parts t)
-    (line-back tableWord (part t 0 4) _ (λ bs. refl) refl
-    ∙ ap (λ (l : List ℕ). part t 0 4 ++ l)
-    (line-back leftWord (part t 4 n) _ (λ bs. refl) refl
-    ∙ ap (λ (l : List ℕ). part t 4 n ++ l)
-    (line-back lengthWord (part t (4 + n) n) (rowsOf t 0 (states t)) (λ bs. refl) (rows-fresh t 0 (states t))
-    ∙ ap (λ (l : List ℕ). part t (4 + n) n ++ l) (rows-back t 0 (states t))))
+    (line-back tableWord (part t 0 (leftAt 0)) _ (λ bs. refl) refl
+    ∙ ap (λ (l : List ℕ). part t 0 (leftAt 0) ++ l)
+    (line-back leftWord (part t (leftAt 0) n) _ (λ bs. refl) refl
+    ∙ ap (λ (l : List ℕ). part t (leftAt 0) n ++ l)
+    (line-back lengthWord (part t (leftAt n) n) (rowsOf t 0 (states t)) (λ bs. refl) (rows-fresh t 0 (states t))
+    ∙ ap (λ (l : List ℕ). part t (leftAt n) n ++ l) (rows-back t 0 (states t))))
     ∙ rw (e, f) (parts-join t n (states t * width t)))
 
 -- and so the table itself, where it is all there

@@ -6,8 +6,8 @@ use native.Mathlib.Omega.{arith}
 use lib.ListN.{length, getD, length-append}
 use Rattle.decimal.specs.Digits.{decimalOf}
 use Rattle.decimal.proofs.Decimal.{decimal-length}
-use Rattle.tables.specs.Layout.{states, productions, width}
-use Rattle.listing.specs.Listing.{spaced, lineOf, rowOf, tableText, tableWord, leftWord, lengthWord, refusalText}
+use Rattle.tables.specs.Layout.{states, productions, width, leftAt}
+use Rattle.listing.specs.Listing.{spaced, lineOf, rowOf, tableText, tableWord, leftWord, lengthWord, refusalText, textSize}
 use Rattle.listing.specs.Parts.{part, rowFrom, rowsOf}
 use Rattle.listing.proofs.Parts.{table-parts}
 
@@ -59,11 +59,11 @@ rows-room t q (suc n) f l m =
     simp length-append (omega arith)
 
 -- the text of a table within the limits
-pub table-room : (t : List ℕ) → Small t → states t ≤ 256 → width t ≤ 124 → productions t ≤ 128 → length (tableText t) ≤ 195114
+pub table-room : (t : List ℕ) → Small t → states t ≤ 256 → width t ≤ 124 → productions t ≤ 128 → length (tableText t) ≤ textSize
 table-room t f q c p =
-    let a : length (lineOf tableWord (part t 0 4)) ≤ 30 = line-room tableWord t 0 4 f in
-    let b : length (lineOf leftWord (part t 4 (productions t))) ≤ 4 + 6 * productions t + 1 = line-room leftWord t 4 (productions t) f in
-    let d : length (lineOf lengthWord (part t (4 + productions t) (productions t))) ≤ 6 + 6 * productions t + 1 = line-room lengthWord t (4 + productions t) (productions t) f in
+    let a : length (lineOf tableWord (part t 0 (leftAt 0))) ≤ 30 = line-room tableWord t 0 (leftAt 0) f in
+    let b : length (lineOf leftWord (part t (leftAt 0) (productions t))) ≤ 4 + 6 * productions t + 1 = line-room leftWord t (leftAt 0) (productions t) f in
+    let d : length (lineOf lengthWord (part t (leftAt (productions t)) (productions t))) ≤ 6 + 6 * productions t + 1 = line-room lengthWord t (leftAt (productions t)) (productions t) f in
     let e : length (rowsOf t 0 (states t)) ≤ states t * 756 = rows-room t 0 (states t) f c (omega arith) in
     rw (table-parts t) (simp length-append (omega arith))
 

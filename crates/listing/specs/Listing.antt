@@ -52,3 +52,7 @@ tableText t =
 -- a refusal: its number and its values
 unfoldable pub refusalText : List ℕ → List ℕ
 refusalText ns = lineOf refusedWord ns
+
+-- so many bytes hold the text of every table within the limits
+abbrev pub textSize : ℕ
+textSize = 195114

@@ -10,6 +10,9 @@ use decimal::number;
 use decimal::put;
 use decimal::word;
 
+// So many bytes hold the text of every table within the limits.
+pub const TEXT: usize = 195114;
+
 // The number at place i, and 0 past the end.
 fn at(s: &[u16], i: usize) -> usize
     ensures { λ r. ⌜ (r ≡ getD (now (s .entry)) i 0) × (r < 65536) ⌝ }
@@ -55,9 +58,9 @@ fn row(out: &mut [u8], used: usize, q: usize, s: &[u16], from: usize, end: usize
 fn rows(out: &mut [u8], used: usize, t: &[u16]) -> usize
     ensures { λ r. ⌜ pageOf (now (out .exit)) r ≡ wrote (pageOf (now (out .entry)) used) (rowsOf (now (t .entry)) 0 (states (now (t .entry)))) ⌝ }
 {
-    let count = at(t, 0);
-    let width = at(t, 1) + at(t, 2);
-    let mut from = 4 + 2 * at(t, 3);
+    let count = at(t, tables::STATES);
+    let width = at(t, tables::TERMINALS) + at(t, tables::NONTERMINALS);
+    let mut from = tables::cells_at(at(t, tables::PRODUCTIONS));
     let mut n = used;
     let mut q = 0;
     while q < count {
@@ -73,10 +76,12 @@ pub fn table(out: &mut [u8], t: &[u16]) -> usize
     ensures { λ r. ⌜ pageOf (now (out .exit)) r ≡ page (now (out .entry)) (tableText (now (t .entry))) ⌝ }
     ensures { λ r. ⌜ Used r (now (out .exit)) ⌝ }
 {
-    let p = at(t, 3);
-    let a = line(out, 0, b"table", t, 0, 4);
-    let b = line(out, a, b"left", t, 4, 4 + p);
-    let c = line(out, b, b"length", t, 4 + p, 4 + 2 * p);
+    let p = at(t, tables::PRODUCTIONS);
+    let lefts = tables::left_at(0);
+    let lengths = tables::length_at(p, 0);
+    let a = line(out, 0, b"table", t, 0, lefts);
+    let b = line(out, a, b"left", t, lefts, lengths);
+    let c = line(out, b, b"length", t, lengths, tables::header_size(p));
     rows(out, c, t)
 }
 

@@ -18,6 +18,7 @@ use Rattle.grammar.specs.Card.{productions, leftOf, lengthOf, symbolOf, startOf
 use Rattle.grammar.proofs.CardLaws.{well-formed}
 use Rattle.state_sets.specs.Words.{Lowest}
 use Rattle.state_sets.proofs.WordLaws.{out-in, out-or}
+use Rattle.transitions.specs.Places.{transitionLimit}
 use Rattle.transitions.specs.Area.{leavesOf, nonterminalOf, firstOf, enteringOf, startingOf}
 use Rattle.transitions.specs.Occurrences.{symbolAt}
 use Rattle.transitions.specs.Data.{Ordered, Enters, Holds}
@@ -40,7 +41,7 @@ module _ (c w z : List ℕ) (k p x s i j : ℕ) (o : Ordered c w k) (e : j ≡ i
   same : (m : ℕ) → (f : Follows w z k p x m) → f .transition ≡ i
   same m f = at .all (f .transition) (f .below) (f .leaves) (f .symbol)
 
-  pub joins-some : j < 2048 → Joins w z k p x s (bitOr s (getD z j 0))
+  pub joins-some : j < transitionLimit → Joins w z k p x s (bitOr s (getD z j 0))
   joins-some h = record {
     only = λ m g. ⊎-elim inl
         (λ b. inr (record { transition = i; below = at .inside (omega arith); leaves = at .leaves (omega arith); symbol = at .symbol (omega arith); member = subst (λ (y : ℕ). bit (getD z y 0) m ≡ true) e b }))
@@ -49,7 +50,7 @@ module _ (c w z : List ℕ) (k p x s i j : ℕ) (o : Ordered c w k) (e : j ≡ i
     all = λ m f. or-has-r s (getD z j 0) m (subst (λ (y : ℕ). bit (getD z y 0) m ≡ true) (same m f ∙ sym e) (f .member));
   }
 
-  pub joins-none : 2048 ≤ j → Joins w z k p x s s
+  pub joins-none : transitionLimit ≤ j → Joins w z k p x s s
   joins-none h = record {
     only = λ m g. inl g;
     kept = λ m g. g;

@@ -6,15 +6,16 @@ use mathlib.Core.Logic.{_↔_, _≢_, _⊎_, inl, inr, ⊎-elim}
 use mathlib.Core.List.{List, []}
 use native.Mathlib.Omega.{arith}
 use native.Mathlib.Decide.{ℕ-discrete}
-use lib.Count.{trailing-le}
 use lib.ListN.{length, getD}
 use borrow.Author.Tests.{lt-ltb}
-use Rattle.sets.specs.Bit.{bit, Lowest as Lowest-in}
+use Rattle.sets.specs.Bit.{bit}
+use Rattle.sets.proofs.BitLaws.{bit-zero}
 use Rattle.sets.proofs.HasLaws.{lt-or-ge}
 use Rattle.grammar.specs.Card.{terminals, nonterminals, productions}
 use Rattle.grammar.proofs.CardLaws.{well-formed}
-use Rattle.tables.specs.Layout.{rowOf}
-use Rattle.tables.proofs.RowLaws.{row-next, row-mono, row-most}
+use Rattle.areas.specs.Areas.{tableSize, rowOf}
+use Rattle.areas.proofs.RowLaws.{row-next, row-mono, row-most}
+use Rattle.transitions.specs.Places.{shiftsAt}
 use Rattle.transitions.specs.Next.{nextOf, Numbered}
 use Rattle.transitions.specs.Data.{Ordered, Holds, Shifts}
 use Rattle.tables.specs.Conflicts.{Single, Lowest, Before, lower-state, lower-symbol}
@@ -42,11 +43,11 @@ row-below c p q x h l = let m = row-mono c p q h in omega arith
 
 module _ (c w : List ℕ) (k : ℕ) (o : Ordered c w k) where
   -- 256 rows fit
-  pub row-fits : (q : ℕ) → q ≤ 256 → rowOf c q ≤ 32004
+  pub row-fits : (q : ℕ) → q ≤ 256 → rowOf c q ≤ tableSize
   row-fits q h = row-most c (well-formed c (o .formed)) q 256 h
 
   -- and the place of any word of a row
-  pub row-room : (q : ℕ) → q < 256 → rowOf c q + 64 ≤ 32004
+  pub row-room : (q : ℕ) → q < 256 → rowOf c q + 64 ≤ tableSize
   row-room q h = let m = row-most c (well-formed c (o .formed)) q 255 (omega arith) in omega arith
 
 -- the table area holds the transitions
@@ -164,14 +165,17 @@ pub record Crossed (A : ℕ → ℕ → ℕ → Type 0) (count terminals q m : �
   pub state : q < count
   pub terminal : m < terminals
   pub two : Two (A q m)
-  pub before : (q′ m′ : ℕ) → q′ < count → m′ < terminals → Before q m q′ m′ → Single (A q′ m′)
+  pub before : (q′ m′ : ℕ) → q′ < count → m′ < terminals → Before q′ m′ q m → Single (A q′ m′)
 
 -- the word has no terminal below m
 abbrev pub Clear : ℕ → ℕ → Type 0
 Clear meet m = (i : ℕ) → i < m → bit meet i ≡ false
 
-pub lowest-most : {meet m : ℕ} → Lowest-in 64 meet m → m ≤ 64
-lowest-most {meet} l = omega (arith, l .value, trailing-le 64 meet)
+pub clear-zero : (meet m : ℕ) → meet ≡ 0 → Clear meet m
+clear-zero meet m e i l = rw e (bit-zero i)
+
+pub clear-below : (meet m x : ℕ) → x ≤ m → Clear meet m → Clear meet x
+clear-below meet m x h none i l = none i (omega arith)
 
 pub clear-more : (meet m m′ : ℕ) (b : Bool) → m′ ≡ m → b ≡ bit meet m′ → b ≡ false → Clear meet m → Clear meet (m + 1)
 clear-more meet m m′ b e f g h i l = ⊎-elim (h i) (λ (d : i ≡ m). ap (bit meet) (d ∙ sym e) ∙ sym f ∙ g) (below-suc i m l)
@@ -189,7 +193,7 @@ module _ (c t₀ w z : List ℕ) (n k : ℕ) (stage : Stage c t₀ w z n) (o : O
       let e : k ≡ stage .transitions = sym (o .total) ∙ stage .ordered .total in
       stage .terminals (y .transition) m (omega (arith, y .below)) (y .follows)
 
-  pub known : (q q′ a p s : ℕ) (found : List ℕ) (accept meet : ℕ) → q < n → q′ ≡ q → a ≡ getD t₀ (rowOf c 0 + terminals c) 0 → p ≡ productions c → s ≡ getD z (6144 + q) 0
+  pub known : (q q′ a p s : ℕ) (found : List ℕ) (accept meet : ℕ) → q < n → q′ ≡ q → a ≡ getD t₀ (rowOf c 0 + terminals c) 0 → p ≡ productions c → s ≡ getD z (shiftsAt + q) 0
       → ((r : ℕ) → r < productions c → Holds (getD found r 0) (LooksBack c w z k q′ r)) → Holds accept (Accepts a q)
       → ((i v : ℕ) → v < 1024 → (bit s i ≡ true) ↔ (v ≢ 0) → (bit meet i ≡ true) ↔ Two (Numbers p v found accept i)) → Known c t₀ w z n k q found accept s meet
   known q q′ a p s found accept meet h eq ea ep es looks accepting meeting = record {
@@ -247,8 +251,8 @@ module _ (c t₀ w z : List ℕ) (n k : ℕ) (stage : Stage c t₀ w z n) (o : O
         }
 
       -- one row more
-      pub rows-more : (b p m : ℕ) (t′ : List ℕ) → b ≡ rowOf c q → p ≡ productions c → terminals c ≤ m → Clear meet m → Row b p found accept t t′ → Rows c (Stands c t₀ w z n k) (q + 1) t₀ t′
-      rows-more b p m t′ eb ep h none r = rows-one t′ (λ i l. none i (omega arith)) (rw (eb, ep) at r)
+      pub rows-more : (b p : ℕ) (t′ : List ℕ) → b ≡ rowOf c q → p ≡ productions c → Clear meet (terminals c) → Row b p found accept t t′ → Rows c (Stands c t₀ w z n k) (q + 1) t₀ t′
+      rows-more b p t′ eb ep none r = rows-one t′ none (rw (eb, ep) at r)
 
       -- the first cell where two meet
       pub crossed : (m m′ x : ℕ) (b : Bool) → m < x → x ≡ terminals c → m′ ≡ m → b ≡ bit meet m′ → b ≡ true → Clear meet m → Crossed (Stands c t₀ w z n k) n (terminals c) q m
@@ -265,13 +269,13 @@ module _ (c t₀ w z : List ℕ) (n k : ℕ) (stage : Stage c t₀ w z n) (o : O
           row : (i : ℕ) → i < terminals c → i < m → Single (Stands c t₀ w z n k q i)
           row i hi l = let y = one i hi (none i l) in record { only = λ v u a d. y .only v u (from i hi v a) (from i hi u d) }
 
-          go : (p i : ℕ) → i < terminals c → Before q m p i → Single (Stands c t₀ w z n k p i)
+          go : (p i : ℕ) → i < terminals c → Before p i q m → Single (Stands c t₀ w z n k p i)
           go p i hi (lower-state l) = cell-single (getD t (rowOf c p + i) 0) (done .cells p i l hi)
           go p i hi (lower-symbol e l) = subst (λ (x : ℕ). Single (Stands c t₀ w z n k x i)) (sym e) (row i hi l)
 
   -- ---- the answer
 
-  beyond : (q : ℕ) (t : List ℕ) → q ≤ n → Rows c (Stands c t₀ w z n k) q t₀ t → (i : ℕ) → 32004 ≤ i → getD t i 0 ≡ getD t₀ i 0
+  beyond : (q : ℕ) (t : List ℕ) → q ≤ n → Rows c (Stands c t₀ w z n k) q t₀ t → (i : ℕ) → tableSize ≤ i → getD t i 0 ≡ getD t₀ i 0
   beyond q t h done i l = done .behind i (omega (arith, row-fits c w k o q (omega (arith, stage .numbered .most))))
 
   pub searched-met : (q m : ℕ) (t : List ℕ) (r : Clash) → Rows c (Stands c t₀ w z n k) q t₀ t → Crossed (Stands c t₀ w z n k) n (terminals c) q m → Named (Stands c t₀ w z n k q m) q m r
@@ -290,7 +294,7 @@ module _ (c t₀ w z : List ℕ) (n k : ℕ) (stage : Stage c t₀ w z n) (o : O
       record { answer = subst (λ (x : ℕ). Rows c (Stands c t₀ w z n k) x t₀ t) e done; long = done .long; beyond = beyond q t h done }
 
   -- 256 rows and the header fit
-  pub size-fits : rowOf c n ≤ 32004
+  pub size-fits : rowOf c n ≤ tableSize
   size-fits = row-fits c w k o n (stage .numbered .most)
 
   -- the rows, then the header and the zeros
@@ -299,5 +303,5 @@ module _ (c t₀ w z : List ℕ) (n k : ℕ) (stage : Stage c t₀ w z n) (o : O
       let done : Rows c (Stands c t₀ w z n k) n t₀ t = subst (Answer c (Stands c t₀ w z n k) n t₀ t) e (s .answer) in
       tabled c n (nextOf c t₀ n) (Stands c t₀ w z n k) t₀ t t′ (s .long) (s .beyond) (done .cells) (λ q x h l b. done .others q x h l b ∙ next-cell c t₀ n q x h b) f
 
-  pub outcome-met : (q m v u : ℕ) (t t′ : List ℕ) (r : Clash) → r ≡ At q m v u → Searched c (Stands c t₀ w z n k) n t₀ t r → t′ ≡ covered 32004 [] t → Outcome c (nextOf c t₀ n) (Stands c t₀ w z n k) n t₀ t′ (At q m v u)
-  outcome-met q m v u t t′ r e s f = (subst (Answer c (Stands c t₀ w z n k) n t₀ t) e (s .answer), f ∙ covered-same 32004 [] t₀ t (s .long) (s .beyond))
+  pub outcome-met : (q m v u : ℕ) (t t′ : List ℕ) (r : Clash) → r ≡ At q m v u → Searched c (Stands c t₀ w z n k) n t₀ t r → t′ ≡ covered tableSize [] t → Outcome c (nextOf c t₀ n) (Stands c t₀ w z n k) n t₀ t′ (At q m v u)
+  outcome-met q m v u t t′ r e s f = (subst (Answer c (Stands c t₀ w z n k) n t₀ t) e (s .answer), f ∙ covered-same tableSize [] t₀ t (s .long) (s .beyond))

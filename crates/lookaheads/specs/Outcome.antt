@@ -6,7 +6,8 @@ use mathlib.Core.List.{List, []}
 use lib.ListN.{length, getD}
 use Rattle.sets.specs.Bit.{bit}
 use Rattle.grammar.specs.Card as card
-use Rattle.tables.specs.Layout.{rowOf}
+use Rattle.areas.specs.Areas.{tableSize, wordsSize, halvesSize, rowOf}
+use Rattle.transitions.specs.Places.{shiftsAt}
 use Rattle.transitions.specs.Next.{nextOf, Numbered}
 use Rattle.transitions.specs.Data.{Ordered, Holds, Shifts}
 use Rattle.tables.specs.Conflicts.{Lowest, Conflict}
@@ -23,11 +24,11 @@ pub record Stage (c t w z : List ℕ) (n : ℕ) : Type 0 where
   pub transitions : ℕ
   pub ordered : Ordered c w transitions
   pub numbered : Numbered c n (nextOf c t n)
-  pub shifts : (q : ℕ) → q < n → Holds (getD z (6144 + q) 0) (Shifts c (nextOf c t n) q)
+  pub shifts : (q : ℕ) → q < n → Holds (getD z (shiftsAt + q) 0) (Shifts c (nextOf c t n) q)
   pub terminals : (i m : ℕ) → i < transitions → bit (getD z i 0) m ≡ true → m < card.terminals c
-  pub table-long : 32004 ≤ length t
-  pub words-long : 8192 ≤ length z
-  pub halves-long : 16384 ≤ length w
+  pub table-long : tableSize ≤ length t
+  pub words-long : wordsSize ≤ length z
+  pub halves-long : halvesSize ≤ length w
 
 -- the numbers at state q and terminal m, by the areas as they stood at the start
 abbrev pub Stands : List ℕ → List ℕ → List ℕ → List ℕ → ℕ → ℕ → ℕ → ℕ → ℕ → Type 0
@@ -56,15 +57,15 @@ Answer c A n t t′ (At q m v u) = Conflict A n (card.terminals c) q m v u
 pub record Searched (c : List ℕ) (A : ℕ → ℕ → ℕ → Type 0) (n : ℕ) (t t′ : List ℕ) (r : Clash) : Type 0 where
   pub answer : Answer c A n t t′ r
   pub long : length t′ ≡ length t
-  pub beyond : (i : ℕ) → 32004 ≤ i → getD t′ i 0 ≡ getD t i 0
+  pub beyond : (i : ℕ) → tableSize ≤ i → getD t′ i 0 ≡ getD t i 0
 
 -- the table, or refusal 13 with the table area zero
 abbrev pub Outcome : List ℕ → (ℕ → ℕ → ℕ) → (ℕ → ℕ → ℕ → Type 0) → ℕ → List ℕ → List ℕ → Clash → Type 0
 Outcome c next A n t t′ Free = Tabled c n next A t t′
-Outcome c next A n t t′ (At q m v u) = Conflict A n (card.terminals c) q m v u × (t′ ≡ covered 32004 [] t)
+Outcome c next A n t t′ (At q m v u) = Conflict A n (card.terminals c) q m v u × (t′ ≡ covered tableSize [] t)
 
 -- and both work areas zero
 pub record Filled (c t w z : List ℕ) (n : ℕ) (t′ w′ z′ : List ℕ) (r : Clash) : Type 0 where
   pub outcome : (k : ℕ) → Ordered c w k → Outcome c (nextOf c t n) (Stands c t w z n k) n t t′ r
-  pub words : z′ ≡ covered 8192 [] z
-  pub halves : w′ ≡ covered 16384 [] w
+  pub words : z′ ≡ covered wordsSize [] z
+  pub halves : w′ ≡ covered halvesSize [] w

@@ -5,7 +5,8 @@ ghost use Prim.Native.Nat.{ℕ, _+_, _<_, _≤_};
 ghost use lib.ListN.{length, getD};
 ghost use Rattle.items.specs.Item.{item};
 ghost use Rattle.grammar.specs.Card.{terminals, productions, lengthOf, startOf, formFault};
-ghost use Rattle.tables.specs.Layout.{rowOf};
+ghost use Rattle.areas.specs.Areas.{tableSize, rowOf};
+ghost use Rattle.transitions.specs.Places.{transitionLimit, shiftsAt};
 ghost use Rattle.transitions.specs.Next.{Numbered};
 ghost use Rattle.transitions.specs.Data.{Ordered, Holds};
 ghost use Rattle.cells.specs.Actions.{Act};
@@ -16,11 +17,11 @@ ghost use Rattle.lookaheads.specs.Outcome.{Stage, Stands, Named, Searche
 
 // s and the set of the transition from state p by the nonterminal x, where there is one.
 fn join(w: &[u32], z: &[u64], p: u32, x: u32, s: u64) -> u64
-    requires { ⌜ (p < 256) × (2048 ≤ length (now z)) ⌝ }
+    requires { ⌜ (p < 256) × (transitionLimit ≤ length (now z)) ⌝ }
     ensures { λ r. ⌜ ((c : List ℕ) (k : ℕ) → Ordered c (now (w .entry)) k → Joins (now (w .entry)) (now (z .entry)) k p x s r) ⌝ }
 {
     let i = card::wide32(relations::index(w, p, x));
-    if i < 2048 {
+    if i < transitions::LIMIT as usize {
         return s | z[i];
     }
     s
@@ -28,7 +29,7 @@ fn join(w: &[u32], z: &[u64], p: u32, x: u32, s: u64) -> u64
 
 // The lookaheads of production r in state q.
 fn lookahead(c: &[u16], w: &[u32], z: &[u64], q: u32, r: u16) -> u64
-    requires { ⌜ ((k : ℕ) × Ordered (now c) (now w) k) × (q < 256) × (r < productions (now c)) × (2048 ≤ length (now z)) ⌝ }
+    requires { ⌜ ((k : ℕ) × Ordered (now c) (now w) k) × (q < 256) × (r < productions (now c)) × (transitionLimit ≤ length (now z)) ⌝ }
     ensures { λ s. ⌜ ((k : ℕ) → Ordered (now (c .entry)) (now (w .entry)) k → Holds s (LooksBack (now (c .entry)) (now (w .entry)) (now (z .entry)) k q r)) ⌝ }
 {
     let x = card::wider(card::left(c, r));
@@ -110,7 +111,7 @@ fn candidates(w: &[u32], keyed: &[u64; 512], q: u32) -> [u64; 2]
 
 // The lookaheads of all productions in state q; only those in `live` are looked at.
 fn words(c: &[u16], w: &[u32], z: &[u64], live: [u64; 2], q: u32) -> [u64; 128]
-    requires { ⌜ ((k : ℕ) × Ordered (now c) (now w) k) × (q < 256) × (2048 ≤ length (now z)) × ((k : ℕ) → Ordered (now c) (now w) k → Candidates (now c) (now w) k q live) ⌝ }
+    requires { ⌜ ((k : ℕ) × Ordered (now c) (now w) k) × (q < 256) × (transitionLimit ≤ length (now z)) × ((k : ℕ) → Ordered (now c) (now w) k → Candidates (now c) (now w) k q live) ⌝ }
     ensures { λ s. ⌜ Live (productions (now (c .entry))) s live
         × ((k : ℕ) → Ordered (now (c .entry)) (now (w .entry)) k → (r : ℕ) → r < productions (now (c .entry)) → Holds (getD s r 0) (LooksBack (now (c .entry)) (now (w .entry)) (now (z .entry)) k q r)) ⌝ }
 {
@@ -139,18 +140,18 @@ fn acceptance(a: u16, q: u16) -> u64
 
 // The state that the start leads to from state 0.
 fn target(c: &[u16], t: &[u16]) -> u16
-    requires { ⌜ rowOf (now c) 0 ≤ 32004 ⌝ }
+    requires { ⌜ rowOf (now c) 0 ≤ tableSize ⌝ }
     ensures { λ r. ⌜ r ≡ getD (now (t .entry)) (rowOf (now (c .entry)) 0 + terminals (now (c .entry))) 0 ⌝ }
 {
-    card::at(t, cells::row(c, 0) + card::wide(card::terminals(c)))
+    card::at(t, areas::row(c, 0) + card::wide(card::terminals(c)))
 }
 
 // The terminals that state q shifts.
 fn shifts(z: &[u64], q: u16) -> u64
-    requires { ⌜ 6144 + q < length (now z) ⌝ }
-    ensures { λ r. ⌜ r ≡ getD (now (z .entry)) (6144 + q) 0 ⌝ }
+    requires { ⌜ shiftsAt + q < length (now z) ⌝ }
+    ensures { λ r. ⌜ r ≡ getD (now (z .entry)) (shiftsAt + q) 0 ⌝ }
 {
-    z[6144 + card::wide(q)]
+    z[transitions::SHIFTS_AT + card::wide(q)]
 }
 
 // No cell where two actions meet; or the first one: state, terminal and the two lowest numbers.
@@ -161,7 +162,7 @@ pub enum Clash {
 
 // The two lowest numbers at state q and terminal m, where two meet.
 fn conflict(c: &[u16], t: &[u16], w: &[u32], z: &[u64], keyed: &[u64; 512], q: u16, m: u16) -> Clash
-    requires { ⌜ ((k : ℕ) × Ordered (now c) (now w) k) × (q < 256) × (2048 ≤ length (now z)) × Keyed (now c) (now keyed) (productions (now c)) × (rowOf (now c) q ≤ 32004) ⌝ }
+    requires { ⌜ ((k : ℕ) × Ordered (now c) (now w) k) × (q < 256) × (transitionLimit ≤ length (now z)) × Keyed (now c) (now keyed) (productions (now c)) × (rowOf (now c) q ≤ tableSize) ⌝ }
     ensures { λ r. ⌜ ((n k : ℕ) (next : ℕ → ℕ → ℕ) → Ordered (now (c .entry)) (now (w .entry)) k → Numbered (now (c .entry)) n next → m < terminals (now (c .entry))
         → getD (now (t .entry)) (rowOf (now (c .entry)) q + m) 0 ≡ next q m → Two (Act (now (c .entry)) next (LooksBack (now (c .entry)) (now (w .entry)) (now (z .entry)) k q) q m)
         → Named (Act (now (c .entry)) next (LooksBack (now (c .entry)) (now (w .entry)) (now (z .entry)) k q) q m) q m r) ⌝ }
@@ -170,7 +171,7 @@ fn conflict(c: &[u16], t: &[u16], w: &[u32], z: &[u64], keyed: &[u64; 512], q: u
     let state = card::wider(q);
     let live = candidates(w, keyed, state);
     let found = words(c, w, z, live, state);
-    let s = card::at(t, cells::row(c, q) + card::wide(m));
+    let s = card::at(t, areas::row(c, card::wide(q)) + card::wide(m));
     let met = cells::pair(p, s, &found, card::wider(m));
     let v = met.lower;
     let u = met.upper;
@@ -193,14 +194,16 @@ fn rows(c: &[u16], t: &mut [u16], w: &[u32], z: &[u64], keyed: &[u64; 512], n: u
         let found = words(c, w, z, live, state);
         let accept = acceptance(a, q);
         let meet = cells::meeting(p, shifts(z, q), &found, live, accept);
-        m = sets::lowest(meet) as u16;
-        while m < terminals {
-            if sets::has(meet, card::wider(m)) {
-                break 'states;
+        if meet != 0 {
+            m = 0;
+            while m < terminals {
+                if sets::has(meet, card::wider(m)) {
+                    break 'states;
+                }
+                m += 1;
             }
-            m += 1;
         }
-        cells::write(t, cells::row(c, q), p, &found, live, accept);
+        cells::write(t, areas::row(c, card::wide(q)), p, &found, live, accept);
         q += 1;
     }
     if q < n {
@@ -216,15 +219,15 @@ pub fn fill(c: &[u16], t: &mut [u16], w: &mut [u32], z: &mut [u64], n: u16) -> C
 {
     let keyed = keys(c);
     let r = rows(c, t, w, z, &keyed, n);
-    cells::clear64(z, 0, 8192);
-    cells::clear32(w, 0, 16384);
+    cells::clear64(z, 0, areas::WORDS);
+    cells::clear32(w, 0, areas::HALVES);
     match r {
         Clash::Free => {
             cells::finish(c, t, n);
             Clash::Free
         }
         Clash::At(q, m, v, u) => {
-            cells::clear16(t, 0, 32004);
+            cells::clear16(t, 0, areas::TABLE);
             Clash::At(q, m, v, u)
         }
     }

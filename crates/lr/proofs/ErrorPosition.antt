@@ -7,7 +7,7 @@ use lib.Seq.{take-append-le}
 use native.Mathlib.Omega.{arith}
 use Rattle.grammar.specs.Grammar.{Grammar, none, Sentence}
 use Rattle.grammar.proofs.Yield.{yield-terminals}
-use Rattle.machine.specs.LrMachine.{peek}
+use Rattle.sets.specs.Lists.{peek}
 use Rattle.lr.proofs.ItemLaws.{Extends, extended, drop-next}
 use Rattle.grammar.proofs.Derive.{yields-rightmost, rightmost-derives}
 use Rattle.lr.proofs.Automaton.{walk}

@@ -5,7 +5,7 @@ use mathlib.Core.List.{List, [], _∷_}
 use Rattle.grammar.specs.Grammar.{Grammar, Symbols}
 use Rattle.grammar.proofs.Yield.{Yields, yield-terminals}
 use Rattle.grammar.proofs.Derive.{derives-yields, yields-derives}
-use Rattle.lr.specs.Items.{First, begins, follows}
+use Rattle.lr.specs.Sets.{First, begins, follows}
 
 pub data FirstYields (g : Grammar) (β : List ℕ) (a : ℕ) : ℕ → Type 0 where
   yields : {p w : List ℕ} {b : ℕ} → Yields g β p (b ∷ w) → FirstYields g β a b

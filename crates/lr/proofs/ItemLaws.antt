@@ -10,6 +10,7 @@ use Rattle.grammar.specs.Useful.{Nonterminal, Productive}
 use Rattle.grammar.proofs.Derive.{derives-yields}
 use Rattle.grammar.proofs.Yield.{Yields, nil, terminal, append, fold-back, yield-terminals}
 use Rattle.lr.proofs.Runs
+use Rattle.lr.proofs.Canonical.{Canonical, in-core, by-path}
 use Rattle.lr.specs.Items
 use Rattle.lr.proofs.Firsts.{FirstYields, yields, empty, first-yields}
 
@@ -51,12 +52,12 @@ module _ (g : Grammar) where
   origin-next {r} {d} e (added h) = rw (← take-next d (g.right r) e) (added h)
   origin-next {r} {d} e (inner α h k i) = rw (append-assoc, ← take-next d (g.right r) e) (inner α h k i)
 
-  pub origin : {γ : List ℕ} {r d a : ℕ} → Items.Canonical g γ r d a → Origin r d γ
-  origin Items.start = added refl
-  origin (Items.close {γ} {s} i e h f) =
-      let o : Origin s 0 (γ ++ []) = inner γ h (Runs.dot-before (Items.with-lookahead i) e) (Items.with-lookahead (Items.close i e h f)) in
+  pub origin : {γ : List ℕ} {r d a : ℕ} → Canonical g γ r d a → Origin r d γ
+  origin Canonical.start = added refl
+  origin (Canonical.close {γ} {s} i e h f) =
+      let o : Origin s 0 (γ ++ []) = inner γ h (Runs.dot-before (in-core i) e) (in-core (Canonical.close i e h f)) in
       rw append-nil at o
-  origin (Items.goto i e) = origin-next e (origin i)
+  origin (Canonical.goto i e) = origin-next e (origin i)
 
   -- nonterminals are productive: each yields some terminals
   pub record AllProductive : Type 0 where
@@ -93,23 +94,23 @@ module _ (g : Grammar) where
     right-of (inner α h k i) = f.right-symbols _ h
 
     -- what an item's state has read, with what stands behind the item's dot, begins a sentence
-    pub extends : {γ : List ℕ} {r d a : ℕ} {p u : List ℕ} → Items.Canonical g γ r d a → Yields g (γ ++ drop d (g.right r)) p u → Extends u
-    extends {p} {u} Items.start y = extended [] {q = p} (rw (append-nil, ← f.added) y)
-    extends {u} (Items.close {γ} {β} {r} {d} {s} i e h fi) y =
+    pub extends : {γ : List ℕ} {r d a : ℕ} {p u : List ℕ} → Canonical g γ r d a → Yields g (γ ++ drop d (g.right r)) p u → Extends u
+    extends {p} {u} Canonical.start y = extended [] {q = p} (rw (append-nil, ← f.added) y)
+    extends {u} (Canonical.close {γ} {β} {r} {d} {s} i e h fi) y =
         let m = all-made (symbols-tail (rw e at (symbols-drop d (right-of (origin i))))) in
         let whole : Yields g (γ ++ (g.right s ++ β)) _ (u ++ m .1) = rw append-assoc at (append g y (m .2)) in
         let t = fold-back g γ β s h whole in
         longer (m .1) (extends {p = t .0} i (rw e (t .1)))
-    extends {p} {u} (Items.goto {γ} {β} {r} {d} {x} i e) y =
+    extends {p} {u} (Canonical.goto {γ} {β} {r} {d} {x} i e) y =
         let y′ : Yields g (γ ++ x ∷ β) p u = rw (drop-next d (g.right r) e, append-assoc) at y in
         extends {p = p} i (rw e y′)
 
     -- and so does what the state has read
-    pub begins : {γ : List ℕ} {r d a : ℕ} {p u : List ℕ} → Items.Canonical g γ r d a → Yields g γ p u → Extends u
+    pub begins : {γ : List ℕ} {r d a : ℕ} {p u : List ℕ} → Canonical g γ r d a → Yields g γ p u → Extends u
     begins {d} i y = let m = all-made (symbols-drop d (right-of (origin i))) in longer (m .1) (extends i (append g y (m .2)))
 
     -- what stands behind a symbol behind an item's dot
-    pub after-symbols : {γ β : List ℕ} {r d a x : ℕ} → Items.Canonical g γ r d a → drop d (g.right r) ≡ x ∷ β → Symbols (g.terminals + g.nonterminals) β
+    pub after-symbols : {γ β : List ℕ} {r d a x : ℕ} → Canonical g γ r d a → drop d (g.right r) ≡ x ∷ β → Symbols (g.terminals + g.nonterminals) β
     after-symbols {d} i e = symbols-tail (rw e at (symbols-drop d (right-of (origin i))))
 
     symbols-head : {n x : ℕ} {β : List ℕ} → Symbols n (x ∷ β) → 0 < x
@@ -117,7 +118,7 @@ module _ (g : Grammar) where
 
     -- the end marker stands behind no dot
     pub after-positive : {γ : List ℕ} {x : ℕ} → Runs.After g γ x → 0 < x
-    after-positive (Runs.dot-before {d} (Items.with-lookahead i) e) = symbols-head (rw e at (symbols-drop d (right-of (origin i))))
+    after-positive (Runs.dot-before {d} (Items.with-lookahead _ i) e) = symbols-head (rw e at (symbols-drop d (right-of (origin (by-path i)))))
 
 -- lookaheads are terminals, and the added production's is the end marker
 module _ (g : Grammar) (f : Formed g) where
@@ -128,13 +129,13 @@ module _ (g : Grammar) (f : Formed g) where
       go (Symbols.more h k m) = k
   first-terminal h (empty y e) = rw e h
 
-  pub lookahead-terminal : {γ : List ℕ} {r d a : ℕ} → Items.Canonical g γ r d a → a < g.terminals
-  lookahead-terminal Items.start = f.end-marker
-  lookahead-terminal (Items.close i e h fi) = first-terminal (lookahead-terminal i) (first-yields g fi)
-  lookahead-terminal (Items.goto i e) = lookahead-terminal i
+  pub lookahead-terminal : {γ : List ℕ} {r d a : ℕ} → Canonical g γ r d a → a < g.terminals
+  lookahead-terminal Canonical.start = f.end-marker
+  lookahead-terminal (Canonical.close i e h fi) = first-terminal (lookahead-terminal i) (first-yields g fi)
+  lookahead-terminal (Canonical.goto i e) = lookahead-terminal i
 
 module _ (g : Grammar) where
-  pub added-end : {γ : List ℕ} {r d a : ℕ} → r ≡ g.productions → Items.Canonical g γ r d a → a ≡ 0
-  added-end e Items.start = refl
-  added-end e (Items.close i e′ h fi) = absurd (omega arith)
-  added-end e (Items.goto i e′) = added-end e i
+  pub added-end : {γ : List ℕ} {r d a : ℕ} → r ≡ g.productions → Canonical g γ r d a → a ≡ 0
+  added-end e Canonical.start = refl
+  added-end e (Canonical.close i e′ h fi) = absurd (omega arith)
+  added-end e (Canonical.goto i e′) = added-end e i

@@ -1,3 +1,4 @@
+pub mod Canonical
 pub mod Firsts
 pub mod Runs
 pub mod ItemLaws
@@ -8,6 +9,6 @@ pub mod Unique
 pub mod RelationLaws
 pub mod ErrorPosition
 pub mod Least
+pub mod CellLaws
 pub mod OneTable
-pub mod CanonicalSets
 pub mod ShortWay

@@ -9,11 +9,14 @@ use native.Mathlib.Nat.{zero-add, add-zero}
 use Rattle.grammar.specs.Grammar.{Grammar, Symbols, none, more, Formed, Sentence, Rightmost}
 use Rattle.grammar.proofs.Yield.{Yields, nil, terminal, nonterminal, append, fold-last, symbols-back}
 use Rattle.lr.proofs.Runs
+use Rattle.lr.proofs.Canonical.{Canonical, in-core, by-path, start-viable}
+use Rattle.lr.specs.Sets
 use Rattle.lr.specs.Items
 use Rattle.lr.proofs.Firsts.{first-begins, first-follows}
-use Rattle.machine.specs.LrMachine.{peek}
+use Rattle.sets.specs.Lists.{peek}
 use Rattle.lr.proofs.Runs.{Act, shift, reduce, accept, wrong}
 use Rattle.lr.proofs.ItemLaws.{drop-next, Origin, added, inner, origin, Extends, AllProductive, begins}
+use Rattle.lr.proofs.Automaton.{merged-self, merged-item}
 use Rattle.grammar.proofs.Derive.{derives-yields, rightmost-yields, yields-rightmost, rightmost-derives}
 
 -- no step follows this action
@@ -38,31 +41,22 @@ module _ (g : Grammar) where
     stopped : (u : List ℕ) → Extends g u → ((z : List ℕ) → peek z ≡ peek x → Sentence g (u ++ z) → ⊥) → Stopped x (u ++ x)
 
 module _ (g : Grammar) (f : Formed g) (act : List ℕ → ℕ → Act) (tab : Runs.Table g act) where
-  same-self : (γ : List ℕ) → Items.SameCore g γ γ
-  same-self γ = record { to = λ r d i. i; from = λ r d i. i }
-
-  pub merged-self : {γ : List ℕ} {r d a : ℕ} → Items.Canonical g γ r d a → Items.Merged g γ r d a
-  merged-self {γ} i = record { path = γ; same = same-self γ; item = i }
-
-  merged-item : {γ : List ℕ} {r d a : ℕ} → Items.Merged g γ r d a → Items.Item g γ r d
-  merged-item m = m .same .from _ _ (Items.with-lookahead (m .item))
-
   pub after-viable : {γ : List ℕ} {x : ℕ} → Runs.After g γ x → Items.Viable g (γ ++ x ∷ [])
-  after-viable (Runs.dot-before (Items.with-lookahead i) e) = Items.by-item (Items.with-lookahead (Items.goto i e))
+  after-viable (Runs.dot-before (Items.with-lookahead _ i) e) = Items.by-item (in-core (Canonical.goto (by-path i) e))
 
   -- a reduction finds its right side on the stack, and below it a state that goes on with its left side
   pub data Reducible (r : ℕ) : List ℕ → Type 0 where
     reducible : (α : List ℕ) → r < g.productions → Runs.After g α (g.left r) → Reducible r (α ++ g.right r)
 
   pub reduction : {γ : List ℕ} {m r : ℕ} → Items.Viable g γ → act γ m ≡ reduce r → Reducible r γ
-  reduction {γ} {m} {r} v e = let h = tab.reduce-from v e in go (h .0) (merged-item (h .1))
+  reduction {γ} {m} {r} v e = let h = tab.reduce-from v e in go (h .0) (merged-item g (h .1))
     where
       go₂ : {δ : List ℕ} → r < g.productions → Origin g r (length (g.right r)) δ → Reducible r δ
       go₂ h (added e) = absurd (omega arith)
       go₂ h (inner α h′ k i) = rw take-length (reducible α h k)
 
       go : r < g.productions → Items.Item g γ r (length (g.right r)) → Reducible r γ
-      go h (Items.with-lookahead i) = go₂ h (origin g i)
+      go h (Items.with-lookahead _ i) = go₂ h (origin g (by-path i))
 
   popped : {γ : List ℕ} (α : List ℕ) {r : ℕ} → Reducible r γ → γ ≡ α ++ g.right r → (r < g.productions) × Items.Viable g (α ++ g.left r ∷ [])
   popped α {r} (reducible α′ h k) e = (h, rw (append-cancel-right α′ α (g.right r) e) at (after-viable k))
@@ -115,7 +109,7 @@ module _ (g : Grammar) (f : Formed g) (act : List ℕ → ℕ → Act) (tab : Ru
       simp append-assoc at (sound s m (t .1) (fold-last g α r (t .0) (rw e₂ at y)))
 
   -- completeness
-  first-of : {β p : List ℕ} {a : ℕ} (v : List ℕ) → Yields g β p v → (y : List ℕ) → peek y ≡ a → Items.First g β a (peek (v ++ y))
+  first-of : {β p : List ℕ} {a : ℕ} (v : List ℕ) → Yields g β p v → (y : List ℕ) → peek y ≡ a → Sets.First g β a (peek (v ++ y))
   first-of [] z y e = first-follows g z e
   first-of (b ∷ v) z y e = first-begins g z
 
@@ -125,33 +119,30 @@ module _ (g : Grammar) (f : Formed g) (act : List ℕ → ℕ → Act) (tab : Ru
   run-append (Runs.reduced α r e₁ e₂ s) t = Runs.reduced α r e₁ e₂ (run-append s t)
 
   -- from an item, over what the symbols behind its dot yield
-  over : {β p w : List ℕ} → Yields g β p w → {γ : List ℕ} {r d a : ℕ} → Items.Canonical g γ r d a → drop d (g.right r) ≡ β → (y : List ℕ) → peek y ≡ a
-      → Runs.Run g act γ (w ++ y) p (γ ++ β) y × Items.Canonical g (γ ++ β) r (d + length β) a
+  over : {β p w : List ℕ} → Yields g β p w → {γ : List ℕ} {r d a : ℕ} → Canonical g γ r d a → drop d (g.right r) ≡ β → (y : List ℕ) → peek y ≡ a
+      → Runs.Run g act γ (w ++ y) p (γ ++ β) y × Canonical g (γ ++ β) r (d + length β) a
   over nil i e y l = (rw append-nil Runs.stop, rw (append-nil, add-zero) i)
   over (terminal {a = m} {α} {p} {w} h k z) {γ} {r} {d} {a} i e y l =
-      let t = over z (Items.goto i e) (drop-next d (g.right r) e) y l in
+      let t = over z (Canonical.goto i e) (drop-next d (g.right r) e) y l in
       let n : suc d + length α ≡ d + suc (length α) = omega arith in (
-        Runs.shifted (tab.shifts (Runs.dot-before (Items.with-lookahead i) e) k) (rw append-assoc at (t .0)),
+        Runs.shifted (tab.shifts (Runs.dot-before (in-core i) e) k) (rw append-assoc at (t .0)),
         rw (append-assoc, n) at (t .1),
       )
   over (nonterminal {α} {p} {u} {q} {v} s h x z) {γ} {r} {d} {a} i e y l =
-      let t = over x (Items.close i e h (first-of v z y l)) refl (v ++ y) refl in
-      let t′ = over z (Items.goto i e) (drop-next d (g.right r) e) y l in
-      let c = tab.reduces h (merged-self (rw zero-add at (t .1))) in
+      let t = over x (Canonical.close i e h (first-of v z y l)) refl (v ++ y) refl in
+      let t′ = over z (Canonical.goto i e) (drop-next d (g.right r) e) y l in
+      let c = tab.reduces h (merged-self g (rw zero-add at (t .1))) in
       let n : suc d + length α ≡ d + suc (length α) = omega arith in (
         rw append-assoc (run-append (t .0) (Runs.reduced γ s c refl (rw append-assoc at (t′ .0)))),
         rw (append-assoc, n) at (t′ .1),
       )
 
   pub complete : {p w : List ℕ} → Yields g (g.terminals ∷ []) p w → Runs.Run g act [] w p (g.terminals ∷ []) [] × (act (g.terminals ∷ []) 0 ≡ accept)
-  complete y = let t = over y Items.start f.added [] refl in (rw append-nil at (t .0), tab.accepts (merged-self (t .1)))
-
-  start-viable : Items.Viable g []
-  start-viable = Items.by-item (Items.with-lookahead Items.start)
+  complete y = let t = over y Canonical.start f.added [] refl in (rw append-nil at (t .0), tab.accepts (merged-self g (t .1)))
 
   -- the accepting stack is the start alone
   accepted-stack : {γ : List ℕ} → Items.Item g γ g.productions 1 → γ ≡ g.terminals ∷ []
-  accepted-stack (Items.with-lookahead i) = go (origin g i)
+  accepted-stack (Items.with-lookahead _ i) = go (origin g (by-path i))
     where
       go : {δ : List ℕ} → Origin g g.productions 1 δ → δ ≡ g.terminals ∷ []
       go (added e) = ap (λ (l : List ℕ). take 1 l) f.added
@@ -169,12 +160,12 @@ module _ (g : Grammar) (f : Formed g) (act : List ℕ → ℕ → Act) (tab : Ru
       same-end (s .0) (rw (s .1) tt) (t .0) (rw (t .1) tt) .0
 
   pub accepted : {w p γ x : List ℕ} → Symbols g.terminals w → Runs.Run g act [] w p γ x → act γ (peek x) ≡ accept → Accepted g w p
-  accepted {w} {p} {γ} {x} m s e = go m (sound s m start-viable nil)
+  accepted {w} {p} {γ} {x} m s e = go m (sound s m (start-viable g) nil)
     where
       whole : {u : List ℕ} → Symbols g.terminals (u ++ x) → Items.Viable g γ → Yields g γ p u → Accepted g (u ++ x) p
       whole {u} n v y =
           let a = tab.accept-from v e in
-          let eγ = accepted-stack (merged-item (a .1)) in
+          let eγ = accepted-stack (merged-item g (a .1)) in
           let ex = none-left (symbols-back u n) (a .0) in
           let y′ : Yields g (g.terminals ∷ []) p (u ++ x) = rw (ex, append-nil) (rw eγ at y) in
           let d : Rightmost g (g.terminals ∷ []) (reverse p) (u ++ x) = simp append-nil at (yields-rightmost g [] [] none y′) in
@@ -189,7 +180,7 @@ module _ (g : Grammar) (f : Formed g) (act : List ℕ → ℕ → Act) (tab : Ru
 
   module _ (pr : AllProductive g) where
     pub refused : {w p γ x : List ℕ} → Symbols g.terminals w → Runs.Run g act [] w p γ x → act γ (peek x) ≡ wrong → Stopped g x w
-    refused {w} {p} {γ} {x} m s e = go (used-of s) (sound s m start-viable nil)
+    refused {w} {p} {γ} {x} m s e = go (used-of s) (sound s m (start-viable g) nil)
       where
         never : (u : List ℕ) → ((y : List ℕ) → peek y ≡ peek x → Runs.Run g act [] (u ++ y) p γ y) → (z : List ℕ) → peek z ≡ peek x → Sentence g (u ++ z) → ⊥
         never u k z l n =
@@ -201,7 +192,7 @@ module _ (g : Grammar) (f : Formed g) (act : List ℕ → ℕ → Act) (tab : Ru
             omega arith
 
         front : {w′ : List ℕ} (u : List ℕ) → Read p γ x w′ → w′ ≡ u ++ x → Extends g u
-        front u (read {u = u′} (Items.by-item (Items.with-lookahead i)) y) h = rw (append-cancel-right u′ u x h) at (begins g f pr i y)
+        front u (read {u = u′} (Items.by-item (Items.with-lookahead _ i)) y) h = rw (append-cancel-right u′ u x h) at (begins g f pr (by-path i) y)
 
         go : {w′ : List ℕ} → Used [] p γ x w′ → Read p γ x w′ → Stopped g x w′
         go (used u k) r = stopped u (front u r refl) (never u k)

@@ -8,11 +8,10 @@ use native.Mathlib.Omega.{arith}
 use native.Mathlib.Decide.{ℕ-discrete}
 use mathlib.Core.Logic.{_⊎_, inl, inr}
 use Rattle.grammar.specs.Grammar.{Grammar, Formed, Symbols}
-use Rattle.grammar.proofs.Yield.{Yields}
+use Rattle.lr.proofs.Canonical.{Canonical, in-core, by-path, start-viable}
 use Rattle.lr.specs.Items
-use Rattle.lr.proofs.Firsts.{first-begins, first-follows}
-use Rattle.lr.proofs.ItemLaws.{AllProductive, all-made, after-symbols, snoc-last, not-snoc}
-use Rattle.lr.proofs.Automaton.{Automaton, CoreClosure, given, opened, CoreAdvanced, advanced, Goes, goes, CoreStart, core-start, walk, walk-snoc, Lookahead}
+use Rattle.lr.proofs.ItemLaws.{AllProductive, snoc-last, not-snoc}
+use Rattle.lr.proofs.Automaton.{Automaton, CoreClosure, given, opened, CoreAdvanced, advanced, Goes, goes, CoreStart, core-start, walk, walk-snoc, Lookahead, item-opened, closure-items, Sits, sits-lookahead, lookahead-sits, lookahead-merged}
 use Rattle.lr.specs.States.{States}
 
 pub symbols-at : (d : ℕ) {n x : ℕ} {l β : List ℕ} → Symbols n l → drop d l ≡ x ∷ β → x < n
@@ -30,48 +29,33 @@ module _ (g : Grammar) (next : ℕ → ℕ → ℕ) where
 
 module _ (g : Grammar) (f : Formed g) (pr : AllProductive g) where
   -- an item's production, lookahead and symbols are the grammar's
-  production-of : {γ : List ℕ} {r d a : ℕ} → Items.Canonical g γ r d a → (r ≡ g.productions) ⊎ (r < g.productions)
-  production-of Items.start = inl refl
-  production-of (Items.close i e h fi) = inr h
-  production-of (Items.goto i e) = production-of i
+  production-of : {γ : List ℕ} {r d a : ℕ} → Canonical g γ r d a → (r ≡ g.productions) ⊎ (r < g.productions)
+  production-of Canonical.start = inl refl
+  production-of (Canonical.close i e h fi) = inr h
+  production-of (Canonical.goto i e) = production-of i
 
   right-of : {r : ℕ} → (r ≡ g.productions) ⊎ (r < g.productions) → Symbols (g.terminals + g.nonterminals) (g.right r)
   right-of (inl e) = rw (e, f.added) (Symbols.more f.end-marker (omega (arith, f.start-nonterminal)) Symbols.none)
   right-of (inr h) = f.right-symbols _ h
 
-  pub symbol-below : {γ β : List ℕ} {r d a x : ℕ} → Items.Canonical g γ r d a → drop d (g.right r) ≡ x ∷ β → x < g.terminals + g.nonterminals
+  pub symbol-below : {γ β : List ℕ} {r d a x : ℕ} → Canonical g γ r d a → drop d (g.right r) ≡ x ∷ β → x < g.terminals + g.nonterminals
   symbol-below {d = d} i e = symbols-at d (right-of (production-of i)) e
 
-  -- items of a path
-  pub item-opened : {γ β : List ℕ} {r d s : ℕ} → Items.Item g γ r d → drop d (g.right r) ≡ g.left s ∷ β → s < g.productions → Items.Item g γ s 0
-  item-opened {γ} {β} {r} {d} {s} (Items.with-lookahead {a} i) e h = go (all-made g f pr (after-symbols g f pr i e))
-    where
-      go₂ : {p : List ℕ} (w : List ℕ) → Yields g β p w → Items.Item g γ s 0
-      go₂ [] y = Items.with-lookahead (Items.close i e h (first-follows g y refl))
-      go₂ (b ∷ w) y = Items.with-lookahead (Items.close i e h (first-begins g y))
-
-      go : ((p : List ℕ) × (w : List ℕ) × Yields g β p w) → Items.Item g γ s 0
-      go t = go₂ (t .1) (t .2)
-
-  pub closure-items : {γ : List ℕ} {kernel : ℕ → ℕ → Type 0} → ((r d : ℕ) → kernel r d → Items.Item g γ r d) → {r d : ℕ} → CoreClosure g kernel r d → Items.Item g γ r d
-  closure-items k (given h) = k _ _ h
-  closure-items k (opened c e h) = item-opened (closure-items k c) e h
-
   pub moved-item : {γ : List ℕ} {x : ℕ} (r d : ℕ) → CoreAdvanced g (Items.Item g γ) x r d → Items.Item g (γ ++ x ∷ []) r d
-  moved-item r d (advanced (Items.with-lookahead i) e) = Items.with-lookahead (Items.goto i e)
+  moved-item r d (advanced (Items.with-lookahead _ i) e) = in-core (Canonical.goto (by-path i) e)
 
   at-same : {γ γ′ : List ℕ} {x x′ r d : ℕ} → γ ≡ γ′ → x ≡ x′ → CoreAdvanced g (Items.Item g γ) x r d → CoreAdvanced g (Items.Item g γ′) x′ r d
   at-same e k a = rw (← e, ← k) a
 
-  pub items-behind : {δ γ : List ℕ} {r d a x : ℕ} → Items.Canonical g δ r d a → δ ≡ γ ++ x ∷ [] → CoreClosure g (CoreAdvanced g (Items.Item g γ) x) r d
-  items-behind {γ = γ} {x = x} Items.start e = absurd (not-snoc γ x e)
-  items-behind (Items.close i k h fi) e = opened (items-behind i e) k h
-  items-behind {γ = γ} {x = x} (Items.goto {γ = γ′} {x = x′} i k) e = let t = snoc-last γ′ γ x′ x e in given (at-same (t .0) (t .1) (advanced (Items.with-lookahead i) k))
+  pub items-behind : {δ γ : List ℕ} {r d a x : ℕ} → Canonical g δ r d a → δ ≡ γ ++ x ∷ [] → CoreClosure g (CoreAdvanced g (Items.Item g γ) x) r d
+  items-behind {γ = γ} {x = x} Canonical.start e = absurd (not-snoc γ x e)
+  items-behind (Canonical.close i k h fi) e = opened (items-behind i e) k h
+  items-behind {γ = γ} {x = x} (Canonical.goto {γ = γ′} {x = x′} i k) e = let t = snoc-last γ′ γ x′ x e in given (at-same (t .0) (t .1) (advanced (in-core i) k))
 
-  pub items-first : {δ : List ℕ} {r d a : ℕ} → Items.Canonical g δ r d a → δ ≡ [] → CoreClosure g (CoreStart g) r d
-  items-first Items.start e = given core-start
-  items-first (Items.close i k h fi) e = opened (items-first i e) k h
-  items-first (Items.goto {γ} {x = x} i k) e = absurd (not-snoc γ x (sym e))
+  pub items-first : {δ : List ℕ} {r d a : ℕ} → Canonical g δ r d a → δ ≡ [] → CoreClosure g (CoreStart g) r d
+  items-first Canonical.start e = given core-start
+  items-first (Canonical.close i k h fi) e = opened (items-first i e) k h
+  items-first (Canonical.goto {γ} {x = x} i k) e = absurd (not-snoc γ x (sym e))
 
   closure-map : {k k′ : ℕ → ℕ → Type 0} → ((r d : ℕ) → k r d → k′ r d) → {r d : ℕ} → CoreClosure g k r d → CoreClosure g k′ r d
   closure-map m (given h) = given (m _ _ h)
@@ -85,11 +69,8 @@ module _ (g : Grammar) (f : Formed g) (pr : AllProductive g) where
     of-item : {γ : List ℕ} {r d : ℕ} → Items.Item g γ r d → Has g next (walk next 0 γ) r d
     of-item {γ} i = record { path = γ; leads = refl; item = i }
 
-    viable-first : Items.Viable g []
-    viable-first = Items.by-item (Items.with-lookahead Items.start)
-
     behind : {γ : List ℕ} (x : ℕ) {r d : ℕ} → Items.Item g (γ ++ x ∷ []) r d → CoreClosure g (CoreAdvanced g (Items.Item g γ) x) r d
-    behind x (Items.with-lookahead i) = items-behind i refl
+    behind x (Items.with-lookahead _ i) = items-behind (by-path i) refl
 
     advanced-goes : {γ : List ℕ} {x r d : ℕ} → CoreClosure g (CoreAdvanced g (Items.Item g γ) x) r d → Goes g (Has g next (walk next 0 γ)) x
     advanced-goes (given (advanced i e)) = goes (of-item i) e
@@ -102,22 +83,22 @@ module _ (g : Grammar) (f : Formed g) (pr : AllProductive g) where
     goes-viable v (goes h e) = go (on-path v h) e
       where
         go : {γ β : List ℕ} {x r d : ℕ} → Items.Item g γ r d → drop d (g.right r) ≡ x ∷ β → Items.Viable g (γ ++ x ∷ [])
-        go (Items.with-lookahead i) e = Items.by-item (Items.with-lookahead (Items.goto i e))
+        go (Items.with-lookahead _ i) e = Items.by-item (in-core (Canonical.goto (by-path i) e))
 
     starts : (r d : ℕ) → Has g next 0 r d ↔ CoreClosure g (CoreStart g) r d
-    starts r d = (λ h. first (on-path viable-first h), λ c. of-item (closure-items one c))
+    starts r d = (λ h. first (on-path (start-viable g) h), λ c. of-item (closure-items g f pr one c))
       where
         first : {r d : ℕ} → Items.Item g [] r d → CoreClosure g (CoreStart g) r d
-        first (Items.with-lookahead i) = items-first i refl
+        first (Items.with-lookahead _ i) = items-first (by-path i) refl
 
         one : (r d : ℕ) → CoreStart g r d → Items.Item g [] r d
-        one r d core-start = Items.with-lookahead Items.start
+        one r d core-start = in-core Canonical.start
 
     below : (γ : List ℕ) (x : ℕ) → Items.Viable g γ → next (walk next 0 γ) x < count
     below γ x v = go (ℕ-discrete (next (walk next 0 γ) x) 0)
       where
         go : Dec (next (walk next 0 γ) x ≡ 0) → next (walk next 0 γ) x < count
-        go (yes e) = rw e (st .below viable-first)
+        go (yes e) = rw e (st .below (start-viable g))
         go (no nz) = rw (walk-snoc next 0 γ x) at (st .below (st .moved v x .0 nz))
 
     moved-has : (γ : List ℕ) (x : ℕ) → Items.Viable g γ → Items.Viable g (γ ++ x ∷ []) → (r d : ℕ) → Has g next (next (walk next 0 γ) x) r d ↔ CoreClosure g (CoreAdvanced g (Has g next (walk next 0 γ)) x) r d
@@ -133,14 +114,7 @@ module _ (g : Grammar) (f : Formed g) (pr : AllProductive g) where
         to h = closure-map up (behind x (on-path w h))
 
         back : CoreClosure g (CoreAdvanced g (Has g next (walk next 0 γ)) x) r d → Has g next (walk next 0 (γ ++ x ∷ [])) r d
-        back c = of-item (closure-items moved-item (closure-map down c))
-
-    -- `Lookahead` is `Merged`: the lookaheads that the numbered state has are those of the states with the same core
-    pub merged-exact : {γ : List ℕ} {r m : ℕ} → Items.Viable g γ → Lookahead g next (walk next 0 γ) r m ↔ Items.Merged g γ r (length (g.right r)) m
-    merged-exact v = (
-      λ a. record { path = a .path; same = st .merged v (Items.by-item (Items.with-lookahead (a .item))) .0 (sym (a .leads)); item = a .item },
-      λ h. record { path = h .path; leads = sym (st .merged v (Items.by-item (Items.with-lookahead (h .item))) .1 (h .same)); item = h .item },
-    )
+        back c = of-item (closure-items g f pr moved-item (closure-map down c))
 
     -- its production is the grammar's, or the added one
     pub item-production : {q r d : ℕ} → Has g next q r d → r ≤ g.productions
@@ -151,14 +125,14 @@ module _ (g : Grammar) (f : Formed g) (pr : AllProductive g) where
         most (inr h) = omega arith
 
         go : {γ : List ℕ} {r d : ℕ} → Items.Item g γ r d → r ≤ g.productions
-        go (Items.with-lookahead i) = most (production-of i)
+        go (Items.with-lookahead _ i) = most (production-of (by-path i))
 
     pub state-automaton : Automaton g count (Has g next) next
     state-automaton =
         record {
-          some-state = st .below viable-first;
+          some-state = st .below (start-viable g);
           start = starts;
-          closed = λ h e k. record { path = h .path; leads = h .leads; item = item-opened (h .item) e k };
+          closed = λ h e k. record { path = h .path; leads = h .leads; item = item-opened g f pr (h .item) e k };
           next-below = λ {q} {x} h. let t = st .every q h in subst (λ (p : ℕ). next p x < count) (t .2) (below (t .0) x (t .1));
           next-some = λ {q} {x} h. let t = st .every q h in subst (λ (p : ℕ). (next p x ≢ 0) ↔ Goes g (Has g next p) x) (t .2) ((λ nz. viable-goes (t .0) x (st .moved (t .1) x .0 nz), λ go. st .moved (t .1) x .1 (goes-viable (t .1) go)));
           next-has = λ {q} {x} h nz r d. (let t = st .every q h in
@@ -166,3 +140,11 @@ module _ (g : Grammar) (f : Formed g) (pr : AllProductive g) where
           distinct = λ {q} {q′} h h′ e. (let t = st .every q h in let t′ = st .every q′ h′ in
               sym (t .2) ∙ st .merged (t .1) (t′ .1) .1 (record { to = λ r d i. on-path (t′ .1) (rw (← t′ .2) at (e r d .0 (rw (t .2) at (of-item i)))); from = λ r d i. on-path (t .1) (rw (← t .2) at (e r d .1 (rw (t′ .2) at (of-item i)))) }) ∙ t′ .2);
         }
+
+    -- the lookaheads of a state by paths: those that the complete item has on some path to it
+    pub lookahead-exact : {q r a : ℕ} → Lookahead g next q r a ↔ Sits g next q r (length (g.right r)) a
+    lookahead-exact = (λ h. lookahead-sits g f pr count (Has g next) next state-automaton h, λ s. sits-lookahead g s)
+
+    -- and those of the merged set of any path to it
+    pub merged-exact : {γ : List ℕ} {r m : ℕ} → Items.Viable g γ → Lookahead g next (walk next 0 γ) r m ↔ Items.Merged g γ r (length (g.right r)) m
+    merged-exact {γ} v = (λ a. lookahead-merged g f pr count (Has g next) next state-automaton v a, λ h. record { path = γ; leads = refl; merged = h })

@@ -5,7 +5,7 @@ use mathlib.Core.List.{List, [], _∷_, _++_}
 use lib.ListN.{length, drop}
 use Rattle.grammar.specs.Grammar.{Grammar}
 use Rattle.lr.specs.Items
-use Rattle.machine.specs.LrMachine.{peek}
+use Rattle.sets.specs.Lists.{peek}
 
 pub data Act : Type 0 where
   wrong shift accept : Act

@@ -1,4 +1,4 @@
--- The short way of 001: the lookaheads of the merged sets are the unions over lookback of Follow.
+-- The short way of 001: the lookaheads of the merged sets are its look-ahead sets, the unions of Follow over lookback.
 use Prim.Native.Nat.{ℕ, zero, _<_}
 use mathlib.Core.Path.{_≡_, refl, sym, _∙_}
 use mathlib.Core.Logic.{_↔_, _≢_, _⊎_, inl, inr}
@@ -9,11 +9,11 @@ use Rattle.grammar.proofs.Derive.{derives-yields, yields-derives}
 use Rattle.lr.specs.Items.{walk, Lookahead}
 use Rattle.lr.specs.States.{States}
 use Rattle.lr.specs.Relations
-use Rattle.lr.specs.Relations.{Reaches, Union, union, Transition, Direct, shifted, ended, Read, Follow, Lookback}
+use Rattle.lr.specs.Relations.{Reaches, Union, union, Transition, Direct, shifted, ended, Read, Follow, LA}
 use Rattle.lr.proofs.ItemLaws.{AllProductive}
 use Rattle.lr.proofs.Automaton.{Automaton}
 use Rattle.lr.proofs.Paths.{Has, state-automaton}
-use Rattle.lr.proofs.RelationLaws.{ReadFrom, direct, through, FollowOf, ends, reads, includes, Reached, LookbackOf, lookahead-lookback, lookback-lookahead}
+use Rattle.lr.proofs.RelationLaws.{ReadFrom, direct, through, FollowOf, ends, reads, includes, Reached, LAOf, lookahead-la, la-lookahead}
 
 abbrev at : ℕ → ℕ → Transition
 at p x = record { state = p; symbol = x }
@@ -59,22 +59,22 @@ module _ (g : Grammar) (next : ℕ → ℕ → ℕ) where
       on : {t v : Transition} {b : ℕ} → Relations.Includes g next t v → FollowOf g next (v .state) (v .symbol) b → FollowOf g next (t .state) (t .symbol) b
       on i f = includes (i .front) (i .behind) (i .below) (i .right) (derives-yields g (i .nullable) Symbols.none .1) (i .leads) (rw (i .left) at (i .move)) (rw (i .left) at f)
 
-  lookback-same : (q s b : ℕ) → LookbackOf g next q s b ↔ Lookback g next q s b
-  lookback-same q s b = (
-    λ l. record { from = l .from; move = l .move; leads = l .leads; follows = follow-of (l .follows) },
-    λ l. record { from = l .from; move = l .move; leads = l .leads; follows = back (l .move) (l .follows) },
+  la-same : (q s b : ℕ) → s < g.productions → LAOf g next q s b ↔ LA g next q s b
+  la-same q s b h = (
+    λ l. record { transition = at (l .from) (g.left s); looks = record { below = h; left = refl; move = l .move; leads = l .leads }; follows = follow-of (l .follows) },
+    λ l. (let t = l .looks in record { from = l .transition .state; move = rw (t .left) at (t .move); leads = t .leads; follows = rw (t .left) at (back (t .move) (l .follows)) }),
   )
     where
-      back : {p x : ℕ} → next p x ≢ 0 → Follow g next (at p x) b → FollowOf g next p x b
+      back : {t : Transition} → next (t .state) (t .symbol) ≢ 0 → Follow g next t b → FollowOf g next (t .state) (t .symbol) b
       back nz (union s r) = of-follow s r nz
 
 -- for the numbered states of the definition; transitions leave only its states
 pub short-way : (g : Grammar) → Formed g → AllProductive g → (count : ℕ) (next : ℕ → ℕ → ℕ) → States g count next → ((q x : ℕ) → next q x ≢ 0 → q < count)
-    → (q s m : ℕ) → s < g.productions → Lookahead g next q s m ↔ Lookback g next q s m
+    → (q s m : ℕ) → s < g.productions → Lookahead g next q s m ↔ LA g next q s m
 short-way g f pr count next st inside q s m h =
     let au = state-automaton g f pr count next st in
-    let e = lookback-same g next q s m in
-    (λ a. e .0 (lookahead-lookback g f pr count (Has g next) next au h a), λ l. lookback-lookahead g f pr count (Has g next) next au reached h (e .1 l))
+    let e = la-same g next q s m h in
+    (λ a. e .0 (lookahead-la g f pr count (Has g next) next au h a), λ l. la-lookahead g f pr count (Has g next) next au reached h (e .1 l))
   where
     reached : (q x : ℕ) → next q x ≢ 0 → Reached g next q
     reached q x nz = let t = st .every q (inside q x nz) in record { path = t .0; viable = t .1; leads = t .2 }

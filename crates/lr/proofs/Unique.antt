@@ -8,6 +8,7 @@ use lib.Seq.{getD-at}
 use native.Mathlib.Omega.{arith}
 use native.Mathlib.Decide.{ℕ-discrete, decLt}
 use Rattle.grammar.specs.Grammar.{Grammar}
+use Rattle.lr.proofs.Canonical.{start-viable}
 use Rattle.lr.specs.Items
 use Rattle.lr.proofs.Automaton.{walk, walk-snoc}
 use Rattle.sets.specs.Lists.{each}
@@ -97,10 +98,10 @@ each-at (suc n) f x h = go (ℕ-discrete x n) (λ k. each-at n f x k)
     go (no ne) ih = List·getD-append (each n (λ x. f x ∷ [])) (f n ∷ []) 0 x (rw len (let k : x < n = omega arith in k)) ∙ ih (omega arith)
 
 -- of two places one is before the other, or they are the same
-pub compare : (q x q₂ x₂ : ℕ) → Before q x q₂ x₂ ⊎ (((q₂ ≡ q) × (x₂ ≡ x)) ⊎ Before q₂ x₂ q x)
+pub compare : (q x q₂ x₂ : ℕ) → Before q₂ x₂ q x ⊎ (((q₂ ≡ q) × (x₂ ≡ x)) ⊎ Before q x q₂ x₂)
 compare q x q₂ x₂ = go (decLt q₂ q) (decLt q q₂) (decLt x₂ x) (decLt x x₂)
   where
-    go : Dec (q₂ < q) → Dec (q < q₂) → Dec (x₂ < x) → Dec (x < x₂) → Before q x q₂ x₂ ⊎ (((q₂ ≡ q) × (x₂ ≡ x)) ⊎ Before q₂ x₂ q x)
+    go : Dec (q₂ < q) → Dec (q < q₂) → Dec (x₂ < x) → Dec (x < x₂) → Before q₂ x₂ q x ⊎ (((q₂ ≡ q) × (x₂ ≡ x)) ⊎ Before q x q₂ x₂)
     go (yes a) b c d = inl (lower-state a)
     go (no a) (yes b) c d = inr (inr (lower-state b))
     go (no a) (no b) (yes c) d = inl (lower-symbol (let e : q₂ ≡ q = omega arith in e) c)
@@ -115,7 +116,7 @@ module _ (g : Grammar) where
     pub lower : from < s
     pub symbol : on < g.terminals + g.nonterminals
     pub is : next from on ≡ s
-    pub before : {q x : ℕ} → x < g.terminals + g.nonterminals → Before from on q x → next q x < s
+    pub before : {q x : ℕ} → x < g.terminals + g.nonterminals → Before q x from on → next q x < s
 
   module _ (next : ℕ → ℕ → ℕ) where
     row-at : (q x : ℕ) → x < g.terminals + g.nonterminals → getD (rowOf g next q) x 0 ≡ next q x
@@ -146,7 +147,7 @@ module _ (g : Grammar) where
             let w : a .place < g.terminals + g.nonterminals = rw (row-long i) at (a .within) in
             record { from = i; on = a .place; lower = omega arith; symbol = w; is = rw (row-at i (a .place) w) at (a .is); before = λ {q} {x} hx b. bef a q x hx b }
           where
-            bef : (a : At s (rowOf g next i)) (q x : ℕ) → x < g.terminals + g.nonterminals → Before i (a .place) q x → next q x < s
+            bef : (a : At s (rowOf g next i)) (q x : ℕ) → x < g.terminals + g.nonterminals → Before q x i (a .place) → next q x < s
             bef a q x hx (lower-state b) = let u : next q x < j = taken-below t q x b hx in omega arith
             bef a q x hx (lower-symbol e b) = rw e (rw (row-at i x hx) at (a .lower x b))
 
@@ -178,7 +179,7 @@ module _ (g : Grammar) where
     back {q} {q′} x a nz = rw (a .leads) at (st .moved (a .viable) x .1 (st′ .moved (a .viable) x .0 (rw (a .leads′) nz)))
 
     same-first : Same 0 0
-    same-first = record { path = []; viable = Items.by-item (Items.with-lookahead Items.start); leads = refl; leads′ = refl }
+    same-first = record { path = []; viable = start-viable g; leads = refl; leads′ = refl }
 
     same-below : {q q′ : ℕ} → Same q q′ → q′ < count′
     same-below a = rw (a .leads′) at (st′ .below (a .viable))
@@ -194,7 +195,7 @@ module _ (g : Grammar) where
         let k : Same s (next′ (a .from) (a .on)) = rw (a .is) at m in
         go a k (decLt (next′ (a .from) (a .on)) s) (decLt s (next′ (a .from) (a .on)))
       where
-        meet : (a : First next s) (b : First next′ s) → s < next′ (a .from) (a .on) → Before (a .from) (a .on) (b .from) (b .on) ⊎ (((b .from ≡ a .from) × (b .on ≡ a .on)) ⊎ Before (b .from) (b .on) (a .from) (a .on)) → ⊥
+        meet : (a : First next s) (b : First next′ s) → s < next′ (a .from) (a .on) → Before (b .from) (b .on) (a .from) (a .on) ⊎ (((b .from ≡ a .from) × (b .on ≡ a .on)) ⊎ Before (a .from) (a .on) (b .from) (b .on)) → ⊥
         meet a b l (inl e) =
             let u : next (b .from) (b .on) < s = a .before (b .symbol) e in
             let nz : next (b .from) (b .on) ≢ 0 = back (b .on) (ih (b .from) (b .lower)) (rw (b .is) (not-zero pos)) in

@@ -6,7 +6,6 @@ use mathlib.Core.List.{List}
 use lib.ListN.{length}
 use Rattle.grammar.specs.Grammar.{Grammar}
 use Rattle.tables.specs.Layout as layout
-use Rattle.tables.specs.Conflicts.{Single}
 use Rattle.lr.specs.Items.{Lookahead}
 use Rattle.lr.specs.States.{States}
 
@@ -15,16 +14,13 @@ module _ (g : Grammar) where
   -- A reduction stands where the complete item has the lookahead m in the merged set, acceptance where the added production's has
   pub data Action (next : ℕ → ℕ → ℕ) (q m : ℕ) : ℕ → Type 0 where
     shifts : m < g.terminals → next q m ≢ 0 → Action next q m (next q m)
-    reduces : (r : ℕ) → r < g.productions → Lookahead g next q r m → Action next q m (1024 + r)
-    accepts : Lookahead g next q g.productions m → Action next q m 4096
+    reduces : (r : ℕ) → r < g.productions → Lookahead g next q r m → Action next q m (layout.reduction r)
+    accepts : Lookahead g next q g.productions m → Action next q m layout.accept
 
-  -- the cell c of state q and terminal m holds the one action that is there, 0 where there is none
-  pub record Cell (count : ℕ) (next : ℕ → ℕ → ℕ) (q m c : ℕ) : Type 0 where
-    pub only : Single (Action next q m)
-    pub shift : (s : ℕ) → 0 < s → s < count → (c ≡ s) ↔ (next q m ≡ s)
-    pub reduce : (r : ℕ) → r < g.productions → (c ≡ 1024 + r) ↔ Lookahead g next q r m
-    pub accept : (c ≡ 4096) ↔ Lookahead g next q g.productions m
-    pub wrong : (c ≡ 0) ↔ ((v : ℕ) → Action next q m v → ⊥)
+  -- the cell c of state q and terminal m holds what stands there: it is v, other than 0, exactly where v is an action.
+  -- So no two actions meet there, and "0 is wrong" (proofs/CellLaws.antt)
+  pub record Cell (next : ℕ → ℕ → ℕ) (q m c : ℕ) : Type 0 where
+    pub holds : (v : ℕ) → v ≢ 0 → (c ≡ v) ↔ Action next q m v
 
   -- l is the grammar's table, in the layout of crate tables
   pub record Table (count : ℕ) (next : ℕ → ℕ → ℕ) (l : List ℕ) : Type 0 where
@@ -33,5 +29,5 @@ module _ (g : Grammar) where
     pub long : length l ≡ layout.sizeOf l
     pub lefts : (r : ℕ) → r < g.productions → layout.leftOf l r ≡ g.left r
     pub lengths : (r : ℕ) → r < g.productions → layout.lengthOf l r ≡ length (g.right r)
-    pub terminals : (q m : ℕ) → q < count → m < g.terminals → Cell count next q m (layout.cellOf l q m)
+    pub terminals : (q m : ℕ) → q < count → m < g.terminals → Cell next q m (layout.cellOf l q m)
     pub nonterminals : (q x : ℕ) → q < count → x < g.nonterminals → layout.cellOf l q (g.terminals + x) ≡ next q (g.terminals + x)

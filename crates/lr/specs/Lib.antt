@@ -1,5 +1,5 @@
-pub mod Items
 pub mod Sets
+pub mod Items
 pub mod States
 pub mod Cells
 pub mod Relations

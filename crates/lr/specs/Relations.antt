@@ -1,5 +1,6 @@
 -- The short way of 001 (DeRemer and Pennello): direct reads, and the relations reads, includes and lookback among nonterminal transitions.
--- A method, and no part of the definition of the table; proofs/ShortWay.antt shows that it gives the lookaheads of the merged sets.
+-- A method, and no part of the definition of the table; proofs/ShortWay.antt shows that it gives the lookaheads of the merged sets, where
+-- `next` has no transitions but those of the states.
 use Prim.Native.Nat.{ℕ, _<_}
 use mathlib.Core.Path.{_≡_}
 use mathlib.Core.Logic.{_≢_}
@@ -52,9 +53,15 @@ module _ (g : Grammar) (next : ℕ → ℕ → ℕ) where
   abbrev pub Follow : Transition → ℕ → Type 0
   Follow t m = Union Includes Read t m
 
-  -- the complete item of production s in state q looks back to the transitions (p, left s) from which the right side leads to q: the union of their Follow
-  pub record Lookback (q s m : ℕ) : Type 0 where
-    pub from : ℕ
-    pub move : next from (g.left s) ≢ 0
-    pub leads : walk next from (g.right s) ≡ q
-    pub follows : Follow (record { state = from; symbol = g.left s }) m
+  -- "(q, A → ω) lookback (p, A) iff" ω leads from p to q: s is the production A → ω, and t a transition (p, A)
+  pub record Lookback (q s : ℕ) (t : Transition) : Type 0 where
+    pub below : s < g.productions
+    pub left : t .symbol ≡ g.left s
+    pub move : next (t .state) (t .symbol) ≢ 0
+    pub leads : walk next (t .state) (g.right s) ≡ q
+
+  -- the look-ahead set: "LA(q, A → ω) = ∪ {Follow(p, A) | (q, A → ω) lookback (p, A)}"
+  pub record LA (q s m : ℕ) : Type 0 where
+    pub transition : Transition
+    pub looks : Lookback q s transition
+    pub follows : Follow transition m

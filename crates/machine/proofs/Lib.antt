@@ -1,6 +1,10 @@
-pub mod LrMachineLaws
-pub mod Areas
 pub mod Checked
+pub mod LrMachineLaws
+pub mod Shifts
+pub mod Settles
+pub mod RunLaws
+pub mod Offers
+pub mod Areas
+pub mod ReadsLaws
 pub mod ReportLaws
 pub mod Spent
-pub mod Shifts

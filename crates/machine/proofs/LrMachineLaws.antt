@@ -1,39 +1,34 @@
 -- The LR machine is deterministic, and from each configuration it makes a step or ends.
-use Prim.Native.Nat.{ℕ, zero, suc, _+_, _-_, _<_}
+use Prim.Native.Nat.{ℕ, zero, suc, _-_, _<_, _≤_, max}
 use mathlib.Core.Path.{_≡_, refl, sym, ap, _∙_}
 use mathlib.Core.Logic.{_≢_}
 use mathlib.Core.List.{List, [], _∷_}
-use lib.ListN.{drop}
+use lib.ListN.{length, drop, length-append}
 use native.Mathlib.Omega.{arith}
 use native.Mathlib.Decide.{decLt, ℕ-discrete}
-use Rattle.machine.specs.LrMachine.{peek, rest}
-use Rattle.tables.specs.Layout.{cellOf, leftOf, lengthOf}
-pub use Rattle.machine.specs.LrMachine.{Config, conf, Step, shift, reduce, Steps, StepsIn, Broken, pops-all, no-next, Ends, accepts, wrong, broken}
+use Rattle.tables.specs.Layout.{cellOf, leftOf, lengthOf, reduction, accept}
+pub use Rattle.machine.specs.LrMachine.{Config, conf, depth, listed, Reduces, reduces, Step, shift, reduce, Path, Broken, pops-all, no-next, Ends, accepts, wrong, broken, own-steps}
 
 -- what a cell of a terminal's column says
 pub data Kind : ℕ → Type 0 where
   is-wrong : Kind 0
   is-shift : (s : ℕ) → 0 < s → s < 1024 → Kind s
-  is-accept : Kind 4096
-  is-reduce : (r : ℕ) → r ≢ 3072 → Kind (1024 + r)
+  is-accept : Kind accept
+  is-reduce : (r : ℕ) → reduction r ≢ accept → Kind (reduction r)
 
 pub kind : (a : ℕ) → Kind a
-kind a = go (ℕ-discrete a 0) (decLt a 1024) (ℕ-discrete a 4096)
+kind a = go (ℕ-discrete a 0) (decLt a 1024) (ℕ-discrete a accept)
   where
-    go : Dec (a ≡ 0) → Dec (a < 1024) → Dec (a ≡ 4096) → Kind a
+    go : Dec (a ≡ 0) → Dec (a < 1024) → Dec (a ≡ accept) → Kind a
     go (yes e) _ _ = rw e is-wrong
     go (no n) (yes h) _ = is-shift a (omega (arith, n)) h
     go (no n) (no h) (yes e) = rw e is-accept
     go (no n) (no h) (no k) =
-        let e : 1024 + (a - 1024) ≡ a = omega (arith, h) in
-        let x : Kind (1024 + (a - 1024)) = is-reduce (a - 1024) (λ z. k (omega (arith, z, e))) in
+        let e : reduction (a - 1024) ≡ a = omega (arith, h) in
+        let x : Kind (reduction (a - 1024)) = is-reduce (a - 1024) (λ z. k (omega (arith, z, e))) in
         rw e at x
 
 module _ (t : List ℕ) where
-  pub steps-of : {sr lr n : ℕ} {c c′ : Config} → StepsIn t sr lr n c c′ → Steps t n c c′
-  steps-of StepsIn.none = Steps.none
-  steps-of (StepsIn.more s h k m) = Steps.more s (steps-of m)
-
   -- a step from each configuration is the only one
   pub step-same : {c c₁ c₂ : Config} → Step t c c₁ → Step t c c₂ → c₁ ≡ c₂
   step-same (shift s e h k) (shift s′ e′ h′ k′) = let z : s ≡ s′ = sym e ∙ e′ in rw z
@@ -75,21 +70,45 @@ module _ (t : List ℕ) where
   ends-same (broken r e′ n b) (wrong e) = absurd (omega (arith, e, e′))
   ends-same (broken r e n b) (broken r′ e′ n′ b′) = refl
 
-  -- the machine's way from a configuration to its own end: the same end, the same number of steps
-  pub record Same (i j : ℕ) (c₁ c₂ : Config) (n₁ n₂ : ℕ) : Type 0 where
+  -- the machine's way from a configuration to its own end: the same end, the same number of steps, as many places in use
+  pub record Same (i j m₁ m₂ : ℕ) (c₁ c₂ : Config) (n₁ n₂ : ℕ) : Type 0 where
     pub steps : i ≡ j
+    pub most : m₁ ≡ m₂
     pub last : c₁ ≡ c₂
     pub number : n₁ ≡ n₂
 
-  pub same-way : {c c₁ c₂ : Config} {i j n₁ n₂ : ℕ} → Steps t i c c₁ → Ends t c₁ n₁ → Steps t j c c₂ → Ends t c₂ n₂ → Same i j c₁ c₂ n₁ n₂
-  same-way Steps.none e Steps.none f = record { steps = refl; last = refl; number = ends-same e f }
-  same-way Steps.none e (Steps.more s m) f = absurd (no-step e s)
-  same-way (Steps.more s m) e Steps.none f = absurd (no-step f s)
-  same-way (Steps.more s m) e (Steps.more s′ m′) f =
+  pub same-way : {c c₁ c₂ : Config} {i j m₁ m₂ n₁ n₂ : ℕ} → Path t i m₁ c c₁ → Ends t c₁ n₁ → Path t j m₂ c c₂ → Ends t c₂ n₂ → Same i j m₁ m₂ c₁ c₂ n₁ n₂
+  same-way Path.none e Path.none f = record { steps = refl; most = refl; last = refl; number = ends-same e f }
+  same-way Path.none e (Path.more s m) f = absurd (no-step e s)
+  same-way (Path.more s m) e Path.none f = absurd (no-step f s)
+  same-way (Path.more {c = c} s m) e (Path.more s′ m′) f =
       let t = same-way m e (rw (step-same s′ s) at m′) f in
-      record { steps = ap suc (t .steps); last = t .last; number = t .number }
+      record { steps = ap suc (t .steps); most = ap (max (depth c)) (t .most); last = t .last; number = t .number }
 
-  -- from each configuration with a state there is a step or an end
-  pub data Next (c : Config) : Type 0 where
-    steps-on : {c′ : Config} → Step t c c′ → Next c
-    ends-here : {n : ℕ} → Ends t c n → Next c
+  -- ---- what a step and a path change
+
+  drop-shorter : (n : ℕ) (qs : List ℕ) → length (drop n qs) ≤ length qs
+  drop-shorter zero qs = omega arith
+  drop-shorter (suc n) [] = omega arith
+  drop-shorter (suc n) (q ∷ qs) = let h = drop-shorter n qs in omega arith
+
+  -- a step uses at most one place more of the stack than there are
+  pub one-deeper : {c c′ : Config} → Step t c c′ → depth c′ ≤ suc (depth c)
+  one-deeper (shift s e h k) = omega arith
+  one-deeper (reduce {q} {qs} r p ps s e n d f h) = let z = ap length d in let y = drop-shorter (lengthOf t r) (q ∷ qs) in omega (arith, z, y)
+
+  lists-on : {c c′ : Config} → Step t c c′ → listed c ≤ listed c′
+  lists-on (shift s e h k) = omega arith
+  lists-on (reduce {out = out} r p ps s e n d f h) = let z = length-append out (r ∷ []) in omega (arith, z)
+
+  pub path-depth : {n m : ℕ} {c c′ : Config} → Path t n m c c′ → depth c ≤ m
+  path-depth Path.none = omega arith
+  path-depth (Path.more s p) = omega arith
+
+  pub path-lists : {n m : ℕ} {c c′ : Config} → Path t n m c c′ → listed c ≤ listed c′
+  path-lists Path.none = omega arith
+  path-lists (Path.more s p) = let a = lists-on s in let b = path-lists p in omega arith
+
+  pub path-last : {n m : ℕ} {c c′ : Config} → Path t n m c c′ → depth c′ ≤ m
+  path-last Path.none = omega arith
+  path-last (Path.more s p) = let b = path-last p in omega arith

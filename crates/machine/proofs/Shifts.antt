@@ -1,19 +1,16 @@
--- Over a table that the checks let pass, whoever made it, the machine shifts only terminals: never at the end of the input.
-use Prim.Native.Nat.{ℕ, zero, suc, _+_, _-_, _<_, _≤_}
-use mathlib.Core.Path.{_≡_}
+-- Over a table that the checks let pass, whoever made it, the machine shifts only terminals, never at the end of the input, and its stack holds states of the table.
+use Prim.Native.Nat.{ℕ, zero, suc, _+_, _-_, _<_}
+use mathlib.Core.Path.{_≡_, refl, sym, ap, _∙_}
+use mathlib.Core.Logic.{_≢_}
 use mathlib.Core.List.{List, [], _∷_}
-use mathlib.Core.Bool.{true}
-use lib.ListN.{length, drop, getD}
-use lib.Dec.{ltb}
-use borrow.Author.Tests.{ltb-true}
+use lib.ListN.{drop, getD}
 use native.Mathlib.Omega.{arith}
-use Rattle.sets.proofs.TestLaws.{and-left, and-right, all-at}
-use Rattle.grammar.specs.Grammar.{Symbols}
-use Rattle.tables.specs.Layout.{states, terminals, cellOf, leftOf, lengthOf}
-use Rattle.machine.specs.LrMachine.{peek, rest, Config, conf, Step, Steps}
-use Rattle.machine.specs.Checks.{terminalOk, inputOk}
-use Rattle.machine.proofs.Checked.{Passed, shift-passed, reduce-passed, left-passed, goto-passed}
+use Rattle.sets.specs.Lists.{peek, rest}
+use Rattle.tables.specs.Layout.{states, terminals, cellOf, leftOf, lengthOf, reduction, accept}
+use Rattle.machine.proofs.Checked.{Passed, shift-passed, reduce-passed, left-passed, goto-passed, next-passed}
+use Rattle.machine.proofs.LrMachineLaws.{Config, conf, Step, Path}
 
+-- each state of a stack is one of a table of n
 pub data Below (n : ℕ) : List ℕ → Type 0 where
   none : Below n []
   more : {q : ℕ} {qs : List ℕ} → q < n → Below n qs → Below n (q ∷ qs)
@@ -26,56 +23,54 @@ below-drop (suc k) (more h b) = below-drop k b
 below-top : {n q : ℕ} {qs : List ℕ} → Below n (q ∷ qs) → q < n
 below-top (more h b) = h
 
-module _ (t l : List ℕ) (n : ℕ) (pa : Passed t l n) where
-  terminals-from : (l : List ℕ) → ((i : ℕ) → i < length l → terminalOk t (getD l i 0) ≡ true) → Symbols (terminals t) l
-  unfolding terminalOk
-  terminals-from [] h = Symbols.none
-  terminals-from (b ∷ l) h =
-      let e = h 0 (omega arith) in
-      Symbols.more (ltb-true 0 b (and-left (ltb 0 b) _ e)) (ltb-true b (terminals t) (and-right (ltb 0 b) _ e)) (terminals-from l (λ i z. h (suc i) (omega arith)))
+-- ---- the terminals from place i on
 
-  pub input-passed : Symbols (terminals t) l
-  unfolding inputOk
-  input-passed = terminals-from l (all-at (λ i. terminalOk t (getD l i 0)) (length l) (pa .input-ok))
+pub peek-drop : (i : ℕ) (l : List ℕ) → peek (drop i l) ≡ getD l i 0
+peek-drop zero [] = refl
+peek-drop zero (a ∷ l) = refl
+peek-drop (suc i) [] = refl
+peek-drop (suc i) (a ∷ l) = peek-drop i l
 
-  peek-below : {x : List ℕ} → Symbols (terminals t) x → peek x < terminals t
-  peek-below Symbols.none = let s = pa .table .sizes .terminals-are .0 in omega arith
-  peek-below (Symbols.more h k m) = k
+pub rest-drop : (i : ℕ) (l : List ℕ) → rest (drop i l) ≡ drop (i + 1) l
+rest-drop zero [] = refl
+rest-drop zero (a ∷ l) = refl
+rest-drop (suc i) [] = let e : suc i + 1 ≡ suc (i + 1) = omega arith in rw e
+rest-drop (suc i) (a ∷ l) = let e : suc i + 1 ≡ suc (i + 1) = omega arith in rw e (rest-drop i l)
 
-  rest-below : {x : List ℕ} → Symbols (terminals t) x → Symbols (terminals t) (rest x)
-  rest-below Symbols.none = Symbols.none
-  rest-below (Symbols.more h k m) = m
+module _ {t l : List ℕ} {n : ℕ} (pa : Passed t l n) {q : ℕ} {qs x : List ℕ} (b : Below (states t) (q ∷ qs)) (i : ℕ) (ahead : drop i l ≡ x) where
+  next-below : peek x < terminals t
+  next-below = rw (← ahead, peek-drop i l) (next-passed pa i)
 
-  pub record Sound (qs x : List ℕ) : Type 0 where
-    pub below : Below (states t) qs
-    pub terminals-left : Symbols (terminals t) x
+  pub shift-in : 0 < cellOf t q (peek x) → cellOf t q (peek x) < 1024 → (cellOf t q (peek x) < states t) × (0 < peek x)
+  shift-in h k = shift-passed (pa .table) q (peek x) (below-top b) next-below h k
 
-  abbrev SoundC : Config → Type 0
-  SoundC (conf qs x out) = Sound qs x
+  pub after-shift : {s : ℕ} → cellOf t q (peek x) ≡ s → 0 < s → s < 1024 → Below (states t) (s ∷ q ∷ qs)
+  after-shift e h k = more (rw e at (shift-in (omega (arith, e)) (omega (arith, e)) .0)) b
 
-  step-sound : {c c′ : Config} → SoundC c → Step t c c′ → SoundC c′
-  step-sound s (Step.shift {q} {x = x} v e h k) =
-      let p = shift-passed (pa .table) q (peek x) (below-top (s .below)) (peek-below (s .terminals-left)) (omega (arith, e)) (omega (arith, e)) in
-      let vb : v < states t = omega (arith, e, p .0) in
-      record { below = more vb (s .below); terminals-left = rest-below (s .terminals-left) }
-  step-sound s (Step.reduce {q} {qs} {x} r p ps v e n d f h) =
-      let lb = peek-below (s .terminals-left) in
-      let r-in = reduce-passed (pa .table) q (peek x) (below-top (s .below)) lb (omega (arith, e)) (λ z. n (omega (arith, e, z))) in
+  pub after-reduce : (r : ℕ) {p s : ℕ} {ps : List ℕ} → cellOf t q (peek x) ≡ reduction r → reduction r ≢ accept → drop (lengthOf t r) (q ∷ qs) ≡ p ∷ ps → cellOf t p (leftOf t r) ≡ s → Below (states t) (s ∷ p ∷ ps)
+  after-reduce r {p} e ne d f =
+      let r-in = reduce-passed (pa .table) q (peek x) (below-top b) next-below (omega (arith, e)) (λ z. ne (sym e ∙ z)) in
       let r-is : cellOf t q (peek x) - 1024 ≡ r = omega (arith, e) in
-      let b = rw d at (below-drop (lengthOf t r) (s .below)) in
+      let bs = rw d at (below-drop (lengthOf t r) b) in
       let lp = left-passed (pa .table) r (rw r-is at r-in) in
-      let vb = goto-passed (pa .table) p (leftOf t r) (below-top b) (lp .0) (lp .1) in
-      let vb′ : v < states t = omega (arith, f, vb) in
-      record { below = more vb′ b; terminals-left = s .terminals-left }
+      more (rw f at (goto-passed (pa .table) p (leftOf t r) (below-top bs) (lp .0) (lp .1))) bs
 
-  steps-sound : {n : ℕ} {c c′ : Config} → SoundC c → Steps t n c c′ → SoundC c′
-  steps-sound s Steps.none = s
-  steps-sound s (Steps.more x m) = steps-sound (step-sound s x) m
+-- what holds wherever the machine comes
+pub data Sound (t l : List ℕ) : Config → Type 0 where
+  sound : {qs x out : List ℕ} (i : ℕ) → Below (states t) qs → drop i l ≡ x → Sound t l (conf qs x out)
+
+module _ (t l : List ℕ) (n : ℕ) (pa : Passed t l n) where
+  step-sound : {c c′ : Config} → Sound t l c → Step t c c′ → Sound t l c′
+  step-sound (sound i b e) (Step.shift s ec h k) = sound (i + 1) (after-shift pa b i e ec h k) (sym (rest-drop i l) ∙ ap rest e)
+  step-sound (sound i b e) (Step.reduce r p ps s ec ne d f h) = sound i (after-reduce pa b i e r ec ne d f) e
+
+  path-sound : {k m : ℕ} {c c′ : Config} → Sound t l c → Path t k m c c′ → Sound t l c′
+  path-sound s Path.none = s
+  path-sound s (Path.more x p) = path-sound (step-sound s x) p
 
   -- wherever the machine comes, a shift is of a terminal of the input
-  pub shifts-terminals : {n q : ℕ} {qs x out : List ℕ} → Steps t n (conf (0 ∷ []) l []) (conf (q ∷ qs) x out) → 0 < cellOf t q (peek x) → cellOf t q (peek x) < 1024 → 0 < peek x
-  shifts-terminals {q} {qs} {x} m h k =
-      let z = pa .table .sizes .states-are .0 in
-      let first : Sound (0 ∷ []) l = record { below = more {q = 0} z none; terminals-left = input-passed } in
-      let s : Sound (q ∷ qs) x = steps-sound {c = conf (0 ∷ []) l []} first m in
-      shift-passed (pa .table) q (peek x) (below-top (s .below)) (peek-below (s .terminals-left)) h k .1
+  pub shifts-terminals : {k m q : ℕ} {qs x out : List ℕ} → Path t k m (conf (0 ∷ []) l []) (conf (q ∷ qs) x out) → 0 < cellOf t q (peek x) → cellOf t q (peek x) < 1024 → 0 < peek x
+  shifts-terminals p h k = go (path-sound (sound 0 (more (pa .table .sizes .states-are .0) none) refl) p) h k
+    where
+      go : {q : ℕ} {qs x out : List ℕ} → Sound t l (conf (q ∷ qs) x out) → 0 < cellOf t q (peek x) → cellOf t q (peek x) < 1024 → 0 < peek x
+      go (sound i b e) h k = shift-in pa b i e h k .1

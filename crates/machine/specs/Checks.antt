@@ -1,12 +1,11 @@
--- "The reader refuses": 21 to 27 in their order, and the whole reading.
+-- "The reader refuses": 21 to 27 in their order.
 use Prim.Native.Nat.{ℕ, _-_}
-use mathlib.Core.List.{List, [], _∷_}
+use mathlib.Core.List.{List}
 use mathlib.Core.Bool.{Bool, true, false, not, cond, _&&_}
 use lib.ListN.{length, getD}
 use lib.Dec.{ltb, leb, eqb}
 use Rattle.sets.specs.Tests.{allBelow, between, unless}
-use Rattle.tables.specs.Layout.{states, terminals, nonterminals, productions, width, leftOf, lengthOf, cellOf, sizeOf}
-use Rattle.machine.specs.Machine.{run, start, reportOf}
+use Rattle.tables.specs.Layout.{states, terminals, nonterminals, productions, width, leftOf, lengthOf, accept, cellOf, sizeOf}
 
 -- 22: the limits of the paper, and Q at least 1
 unfoldable pub sizesOk : List ℕ → Bool
@@ -21,7 +20,7 @@ unfoldable pub terminalCellOk : List ℕ → ℕ → ℕ → Bool
 terminalCellOk t x v =
     cond (eqb v 0) true
     (cond (ltb v (states t)) (not (eqb x 0))
-    (cond (eqb v 4096) (eqb x 0)
+    (cond (eqb v accept) (eqb x 0)
     (cond (ltb v 1024) false (ltb (v - 1024) (productions t)))))
 
 -- a nonterminal's column has a state, or 0
@@ -55,15 +54,3 @@ refusalOf t l n =
     (unless (leb (length l) 65535) 25
     (unless (inputOk t l) 26
     (unless (ltb 0 n) 27 0)))))))
-
--- a reading: the numbers that it answers and both areas as it leaves them
-pub record Reading : Type 0 where
-  pub report : List ℕ
-  pub stack : List ℕ
-  pub list : List ℕ
-
-unfoldable pub reading : List ℕ → List ℕ → List ℕ → List ℕ → ℕ → Reading
-reading t l st li a =
-    cond (eqb (refusalOf t l (length st)) 0)
-    (record { report = reportOf t (run t l a (start st li)); stack = run t l a (start st li) .final .stack; list = run t l a (start st li) .final .list })
-    (record { report = refusalOf t l (length st) ∷ []; stack = st; list = li })

@@ -1,38 +1,60 @@
--- Demand 2 for the reader: a reading that is not refused makes the steps of the LR machine, its count is their number, and each end comes only where the paper has it come.
-use Prim.Native.Nat.{ℕ, zero, suc, _+_, _<_, _≤_}
+-- Demand 2 for the reader: a reading that is not refused makes the steps of the LR machine, each end comes only where the paper has it come,
+-- and the report and both areas are then those of the machine: `faithful` and `only-reading` of proofs/ReadsLaws.antt.
+use Prim.Native.Nat.{ℕ, suc, _+_, _<_, _≤_}
 use mathlib.Core.Path.{_≡_}
-use mathlib.Core.Logic.{_≢_}
-use mathlib.Core.List.{List, [], _∷_, reverse}
-use lib.ListN.{length, drop, take}
-use Rattle.tables.specs.Layout.{cellOf}
-use Rattle.machine.specs.LrMachine.{peek, conf, Step, Steps, Ends}
-use Rattle.machine.specs.Checks.{Reading}
-use Rattle.machine.specs.Report.{numberOf, stepsOf, depthOf, productionsOf, positionOf}
+use mathlib.Core.Logic.{_≢_, _↔_}
+use mathlib.Core.List.{List, [], _∷_, _++_, reverse}
+use lib.ListN.{length, drop}
+use Rattle.sets.specs.Bit.{bit, count, Has}
+use Rattle.sets.specs.Lists.{covered}
+use Rattle.tables.specs.Layout.{terminals, cellOf}
+use Rattle.machine.specs.LrMachine.{Config, conf, depth, listed, Reduces, Step, Path, Ends, own-steps}
+use Rattle.machine.specs.Report.{Report, ended, wrong-at, Reading}
 
--- why the machine stops at a configuration, with k steps left, sr places in the stack area and lr in the list area: the number of the end, and the steps that the end itself takes
-pub data Stops (t : List ℕ) (k sr lr : ℕ) : List ℕ → List ℕ → List ℕ → ℕ → ℕ → Type 0 where
-  accepted-here : {qs x out : List ℕ} → Ends t (conf qs x out) 0 → 0 < k → Stops t k sr lr qs x out 0 1
-  wrong-here : {qs x out : List ℕ} → Ends t (conf qs x out) 31 → Stops t k sr lr qs x out 31 0
-  no-steps : {qs x out : List ℕ} → (Ends t (conf qs x out) 31 → ⊥) → k ≡ 0 → Stops t k sr lr qs x out 32 0
-  list-full : {q : ℕ} {qs x out : List ℕ} (r : ℕ) → cellOf t q (peek x) ≡ 1024 + r → r ≢ 3072 → 0 < k → length out ≡ lr → Stops t k sr lr (q ∷ qs) x out 34 0
-  broken-here : {qs x out : List ℕ} → Ends t (conf qs x out) 35 → 0 < k → length out < lr → Stops t k sr lr qs x out 35 0
-  stack-full : {qs x out : List ℕ} (qs′ x′ out′ : List ℕ) → Step t (conf qs x out) (conf qs′ x′ out′) → 0 < k → length out′ ≤ lr → length qs′ ≡ suc sr → Stops t k sr lr qs x out 33 0
+-- what a reading may still use: steps, and all places of the stack area and of the list area
+pub record Allowed : Type 0 where
+  pub steps : ℕ
+  pub stack : ℕ
+  pub list : ℕ
+
+-- why the machine stops at a configuration, with the number of the end: "tested in this order before a move" are 31, 32, 34, 35, 33
+pub data Stops (t : List ℕ) (a : Allowed) (c : Config) : ℕ → Type 0 where
+  accepted-here : Ends t c 0 → 0 < a .steps → Stops t a c 0
+  wrong-here : Ends t c 31 → Stops t a c 31
+  no-steps : (Ends t c 31 → ⊥) → a .steps ≡ 0 → Stops t a c 32
+  list-full : {r : ℕ} → Reduces t r c → 0 < a .steps → listed c ≡ a .list → Stops t a c 34
+  broken-here : Ends t c 35 → 0 < a .steps → listed c < a .list → Stops t a c 35
+  stack-full : {c′ : Config} → Step t c c′ → 0 < a .steps → listed c′ ≤ a .list → depth c′ ≡ suc (a .stack) → Stops t a c 33
+
+-- "the offer: a word with the bits of the marks whose cell in the top row is not 0, and how many they are"
+pub record Offer (t : List ℕ) (q word size : ℕ) : Type 0 where
+  pub members : (m : ℕ) → Has word m ↔ ((m < terminals t) × (cellOf t q m ≢ 0))
+  pub many : size ≡ count (bit word) (terminals t)
+
+-- what is reported after so many steps at a configuration with the end of a number; for 31 "place from 0" and the offer too
+pub data Reports (t input : List ℕ) (steps : ℕ) : Config → ℕ → Report → Type 0 where
+  counts : {c : Config} (n : ℕ) → n ≢ 31 → Reports t input steps c n (ended n (steps + own-steps n) (depth c) (listed c))
+  expects : {q : ℕ} {qs x out : List ℕ} (position word size : ℕ) → position + length x ≡ length input → Offer t q word size
+      → Reports t input steps (conf (q ∷ qs) x out) 31 (wrong-at steps (length (q ∷ qs)) (length out) position word size)
 
 pub record Faithful (t input stack list : List ℕ) (limit : ℕ) (r : Reading) : Type 0 where
   -- so many steps lead from state 0 before the whole input to this configuration
   pub steps : ℕ
+  pub most : ℕ
   pub states : List ℕ
   pub ahead : List ℕ
   pub productions : List ℕ
-  pub path : Steps t steps (conf (0 ∷ []) input []) (conf states ahead productions)
-  -- where the machine stops, with what is left of the step limit
+  pub path : Path t steps most (conf (0 ∷ []) input []) (conf states ahead productions)
+  -- within both areas on the way
+  pub within : most ≤ length stack
+  pub room : length productions ≤ length list
+  -- there the machine stops, with what is left of the step limit
   pub left : ℕ
   pub budget : steps + left ≡ limit
-  pub own : ℕ
-  pub why : Stops t left (length stack) (length list) states ahead productions (numberOf r) own
-  -- the count, the list, the used places of the stack and the position are the machine's
-  pub count : stepsOf r ≡ steps + own
-  pub listed : productionsOf r ≡ productions
-  pub stacked : take (depthOf r) (r .stack) ≡ reverse states
-  pub depth : depthOf r ≡ length states
-  pub position : numberOf r ≡ 31 → drop (positionOf r) input ≡ ahead
+  pub number : ℕ
+  pub why : Stops t (record { steps = left; stack = length stack; list = length list }) (conf states ahead productions) number
+  -- the report is of that place
+  pub reported : Reports t input steps (conf states ahead productions) number (r .report)
+  -- "used places of stack and list hold states and rules", "a place popped becomes 0", "never-used places are unchanged"
+  pub stacked : r .stack ≡ covered most (reverse states) stack
+  pub listing : r .list ≡ productions ++ drop (length productions) list

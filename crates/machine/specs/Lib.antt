@@ -1,5 +1,6 @@
 pub mod LrMachine
-pub mod Machine
 pub mod Checks
 pub mod Report
 pub mod Faithful
+pub mod Reads
+pub mod ComputedRun

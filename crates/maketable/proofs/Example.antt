@@ -2,23 +2,24 @@
 use mathlib.Core.Path.{_≡_, refl, subst}
 use mathlib.Core.List.{List, [], _∷_, _++_}
 use Prim.Native.Nat.{ℕ}
-use lib.ListN.{length-replicate}
 use Rattle.sets.specs.Bit.{bit}
 use Rattle.sets.specs.Tests.{allBelow, between}
 use Rattle.grammar.specs.Card as cards
 use Rattle.grammar.specs.Card.{symbols, symbolOf, startOf, rightOf, isNonterminal, isSymbol, leftsOk, rightsOk, formFault}
 use Rattle.tables.specs.Layout.{build}
-use Rattle.lalr.specs.Nonterminals.{nullables, productive, reachable, uselessNonterminal, firsts}
-use Rattle.lalr.specs.Lalr as lalr
-use Rattle.lalr.specs.Lalr.{facts, closure, advance, goto}
-use Rattle.lalr.specs.Generator.{made, cardAnswer, tableOf}
+use Rattle.lalr.specs.ComputedNonterminals.{nullables, productive, reachable, uselessNonterminal, firsts}
+use Rattle.lalr.specs.ComputedStates as lalr
+use Rattle.lalr.specs.ComputedStates.{facts, closure, advance, goto}
+use Rattle.lalr.specs.Answer.{made}
+use Rattle.lalr.specs.ComputedAnswer.{cardAnswer, tableOf}
+use Rattle.card_input.specs.Reading.{cardSize}
 use Rattle.decimal.specs.Form.{Card}
 use Rattle.decimal.specs.Scanning.{classOf, entered, fedIn, fed, foundOf}
 use Rattle.decimal.proofs.Scanned.{scanned-card}
 use Rattle.listing.proofs.Example.{table-A, text-A, table-A-text}
 use Rattle.response.specs.Response.{responseText, cardText}
 use Rattle.maketable.specs.Printed.{Prints, card}
-use Rattle.maketable.proofs.Texts.{zeros}
+use Rattle.maketable.proofs.Texts.{zeros, zeros-length}
 
 card-A : List ℕ
 card-A = 3 ∷ 1 ∷ 2 ∷ 3 ∷ 3 ∷ 3 ∷ 2 ∷ 1 ∷ 3 ∷ 1 ∷ 2 ∷ []
@@ -44,7 +45,7 @@ input-A = input-0 ++ input-1 ++ input-2 ++ input-3
 
 input-A-card : Card input-A card-A
 unfolding card-A input-A input-0 input-1 input-2 input-3 classOf entered fedIn fed foundOf
-input-A-card = scanned-card (zeros 772) (length-replicate {A = ℕ} 772 0) input-A card-A .0 refl
+input-A-card = scanned-card (zeros cardSize) (zeros-length cardSize) input-A card-A .0 refl
 
 card-A-made : cardAnswer card-A ≡ made
 unfolding card-A bit allBelow between cards.terminals cards.nonterminals cards.productions symbols cards.leftOf cards.lengthOf symbolOf startOf rightOf cards.sizesOk isNonterminal isSymbol leftsOk rightsOk formFault nullables productive reachable uselessNonterminal firsts lalr.states facts closure advance goto lalr.start

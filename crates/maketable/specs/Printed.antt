@@ -1,12 +1,9 @@
 -- What the program prints for an input, which is told by its bytes.
 use Prim.Native.Nat.{ℕ}
-use mathlib.Core.Path.{_≡_}
 use mathlib.Core.List.{List}
-use lib.ListN.{replicate}
-use Rattle.decimal.specs.declared.scanner.Scan.{Scan}
-use Rattle.decimal.specs.declared.scanner.Scan.the-variants.{Between}
 use Rattle.decimal.specs.Form.{Card}
-use Rattle.decimal.specs.Scanning.{Fed, fedOf, fed}
+use Rattle.card_input.specs.declared.Input.{Input}
+use Rattle.card_input.specs.declared.Input.the-variants as input
 use Rattle.listing.specs.Listing.{notACard}
 use Rattle.response.specs.Response.{cardText}
 
@@ -16,10 +13,8 @@ pub data Prints (bs : List ℕ) : List ℕ → Type 0 where
   -- "input of other form, or over 772 numbers, prints `not a card`"
   other : ((c : List ℕ) → Card bs c → ⊥) → Prints bs notACard
 
--- the scan at its start, over an area of zeros
-abbrev pub begun : Fed
-begun = fedOf (replicate 772 0) (Between 0)
-
--- whatever bytes the scan was fed from its start on, the text is that of these bytes
-abbrev pub Answers : List ℕ → Scan → List ℕ → Type 0
-Answers area s text = (bs : List ℕ) → fedOf area s ≡ fed begun bs → Prints bs text
+-- the text for what was read of the input bs; nothing is printed where a read failed
+abbrev pub Answers : List ℕ → Input → List ℕ → Type 0
+Answers bs (input.Card n) text = Prints bs text
+Answers bs input.NotACard text = Prints bs text
+Answers bs input.Failed text = Unit {0}

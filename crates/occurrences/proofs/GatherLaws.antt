@@ -3,22 +3,23 @@ use mathlib.Core.Path.{_≡_, refl, sym, ap, ap₂, _∙_, subst}
 use mathlib.Core.List.{List}
 use mathlib.Core.Bool.{Bool, true, false, not, true≢false}
 use mathlib.Core.Logic.{_⊎_, inl, inr, ⊎-elim}
-use Prim.Native.Nat.{ℕ, suc, _+_, _-_, _*_, _/_, _%_, _^_, _≤_, _<_}
+use Prim.Native.Nat.{ℕ, suc, _+_, _-_, _≤_, _<_}
 use native.Mathlib.Omega.{arith}
-use native.Mathlib.Nat.{eq-or-lt-of-le, mod-add-div'}
+use native.Mathlib.Nat.{eq-or-lt-of-le}
 use native.Mathlib.Numerals.{add-one}
-use lib.ListN.{length, getD, set, length-set}
-use lib.Seq.{getD-set-same, getD-set-other}
+use lib.ListN.{length, getD}
 use borrow.Author.Tests.{not-true, not-false}
 use Rattle.sets.specs.Bit.{bit}
 use Rattle.sets.proofs.HasLaws.{lt-or-ge}
 use Rattle.grammar.specs.Card.{terminals, nonterminals, productions, lengthOf, startOf, formFault}
 use Rattle.grammar.proofs.CardLaws.{well-formed}
-use Rattle.transitions.specs.Area.{lastOf, productionOf, dotOf, linkOf, pairOf}
+use Rattle.transitions.specs.Places.{startsAt, lastsAt, productionsAt, dotsAt, linksAt, nullablesAt, occurrencesAt, halvesEnd}
+use Rattle.transitions.specs.Area.{lastOf, productionOf, dotOf, linkOf}
+use Rattle.transitions.specs.Writes.{Stored, Nulled}
 use Rattle.transitions.specs.Occurrences.{symbolAt, Nullable, Occurs, occurringOf, Latest}
 use Rattle.occurrences.specs.Stores.{Occurred}
 use Rattle.occurrences.specs.Gathers.{Gathered, Between, Started, Prepared}
-use Rattle.occurrences.proofs.StoreLaws.{eq-or}
+use Rattle.transitions.proofs.WriteLaws.{eq-or, nullables-same}
 
 pub latest-same : (c w w′ : List ℕ) (x m a : ℕ) → ((o : ℕ) → o < m → occurringOf c w′ o ≡ occurringOf c w o) → Latest c w x m a → Latest c w′ x m a
 latest-same c w w′ x m a same L = record {
@@ -42,17 +43,17 @@ gather-start c e w h z = record {
 }
 
 -- the places of the occurrences are the same
-pub gather-same : (c : List ℕ) (e : ℕ) (w w′ : List ℕ) (r d m : ℕ) → ((i : ℕ) → 8834 ≤ i → getD w′ i 0 ≡ getD w i 0) → Gathered c e w r d m → Gathered c e w′ r d m
+pub gather-same : (c : List ℕ) (e : ℕ) (w w′ : List ℕ) (r d m : ℕ) → ((i : ℕ) → lastsAt ≤ i → getD w′ i 0 ≡ getD w i 0) → Gathered c e w r d m → Gathered c e w′ r d m
 gather-same c e w w′ r d m same G = record {
   most = G .most;
-  occurs = λ o l. rw (same (8895 + o) (omega arith), same (9407 + o) (omega arith)) (G .occurs o l);
-  all = λ s i o p. let a = G .all s i o p in (a .0, a .1, same (8895 + a .0) (omega arith) ∙ a .2, same (9407 + a .0) (omega arith) ∙ a .3);
-  last = λ j l. rw (same (8834 + j) (omega arith)) (latest-same c w w′ (terminals c + j) m (lastOf w j) (λ o g. here o) (G .last j l));
-  link = λ o l. rw (same (9919 + o) (omega arith), here o) (latest-same c w w′ (occurringOf c w o) o (linkOf w o) (λ i g. here i) (G .link o l));
+  occurs = λ o l. rw (same (productionsAt + o) (omega arith), same (dotsAt + o) (omega arith)) (G .occurs o l);
+  all = λ s i o p. let a = G .all s i o p in (a .0, a .1, same (productionsAt + a .0) (omega arith) ∙ a .2, same (dotsAt + a .0) (omega arith) ∙ a .3);
+  last = λ j l. rw (same (lastsAt + j) (omega arith)) (latest-same c w w′ (terminals c + j) m (lastOf w j) (λ o g. here o) (G .last j l));
+  link = λ o l. rw (same (linksAt + o) (omega arith), here o) (latest-same c w w′ (occurringOf c w o) o (linkOf w o) (λ i g. here i) (G .link o l));
 }
   where
     here : (o : ℕ) → occurringOf c w′ o ≡ occurringOf c w o
-    here o = occurring-of c w w′ o (same (8895 + o) (omega arith)) (same (9407 + o) (omega arith))
+    here o = occurring-of c w w′ o (same (productionsAt + o) (omega arith)) (same (dotsAt + o) (omega arith))
 
 module _ (c : List ℕ) (e : ℕ) (w : List ℕ) (r d m : ℕ) (G : Gathered c e w r d m) where
   -- no occurrence stands before the dot
@@ -189,19 +190,19 @@ between-here w = record { long = refl; low = λ i h. refl; high = λ i h. refl }
 
 -- ---- the starts
 
-module _ (c w : List ℕ) (r s i : ℕ) (ei : i ≡ r) (hr : r < 128) where
-  pub store-start : (e m : ℕ) → Gathered c e w r (lengthOf c r) m → Gathered c e (set w (8705 + i) s) r (lengthOf c r) m
-  store-start e m G = gather-same c e w (set w (8705 + i) s) r (lengthOf c r) m (λ j h. getD-set-other w (8705 + i) j s 0 (λ z. omega arith)) G
+module _ (c w w₁ : List ℕ) (r s i : ℕ) (ei : i ≡ r) (hr : r < 128) (S : Stored w (startsAt + i) s w₁) where
+  pub store-start : (e m : ℕ) → Gathered c e w r (lengthOf c r) m → Gathered c e w₁ r (lengthOf c r) m
+  store-start e m G = gather-same c e w w₁ r (lengthOf c r) m (λ j h. S .other j (λ z. omega arith)) G
 
-  pub store-high : (j : ℕ) → 10431 ≤ j → getD (set w (8705 + i) s) j 0 ≡ getD w j 0
-  store-high j h = getD-set-other w (8705 + i) j s 0 (λ z. omega arith)
+  pub store-high : (j : ℕ) → nullablesAt ≤ j → getD w₁ j 0 ≡ getD w j 0
+  store-high j h = S .other j (λ z. omega arith)
 
-  pub started-more : (w₂ : List ℕ) → s ≡ startOf c r → 16384 ≤ length w → Between (set w (8705 + i) s) w₂ → Started c w r → Started c w₂ (r + 1)
-  started-more w₂ es l B T = record {
+  pub started-more : (w₂ : List ℕ) → s ≡ startOf c r → Between w₁ w₂ → Started c w r → Started c w₂ (r + 1)
+  started-more w₂ es B T = record {
     starts = λ u h.
         ⊎-elim
-        (λ (z : u ≡ r). rw z (B .low (8705 + r) (omega arith) ∙ rw ei (getD-set-same w (8705 + r) s 0 (omega arith)) ∙ es))
-        (λ (z : u < r). B .low (8705 + u) (omega arith) ∙ getD-set-other w (8705 + i) (8705 + u) s 0 (λ y. omega arith) ∙ T .starts u z)
+        (λ (z : u ≡ r). rw z (B .low (startsAt + r) (omega arith) ∙ rw ei at (S .here) ∙ es))
+        (λ (z : u < r). B .low (startsAt + u) (omega arith) ∙ S .other (startsAt + u) (λ y. omega arith) ∙ T .starts u z)
         (eq-or-lt-of-le (let v : u ≤ r = omega arith in v));
   }
 
@@ -213,43 +214,26 @@ gather-end c e w r p m ep h g G = let z : r ≡ productions c = omega arith in r
 
 -- ---- all of it
 
-pub prepared : (c : List ℕ) (e : ℕ) (w₀ w : List ℕ) (m a b : ℕ) → formFault c ≡ 0 → 16384 ≤ length w → length w ≡ length w₀ → ((i : ℕ) → 10434 ≤ i → getD w i 0 ≡ getD w₀ i 0) → m ≤ 512
-    → Gathered c e w (productions c) (lengthOf c (productions c)) m → Started c w (productions c) → a ≡ e % 2 ^ 32 → b ≡ e / 2 ^ 32 → Prepared c e w₀ (set (set (set w 10431 a) 10432 b) 10433 m)
-unfolding pairOf
-prepared c e w₀ w m a b ff l lw rest few G T ea eb = record {
-  starts = record { starts = λ s h. same (8705 + s) (let p = well-formed c ff .limits .productions-to in omega arith) ∙ T .starts s h };
-  occurrences = record {
-    most = rw count few;
-    occurs = λ o h. let k : o < m = rw count at h in rw (same (8895 + o) (omega arith), same (9407 + o) (omega arith)) (G .occurs o k);
-    all = λ r d o. let x = G .all r d o (inl (o .production)) in let k = x .1 in (x .0, rw count k, same (8895 + x .0) (omega arith) ∙ x .2, same (9407 + x .0) (omega arith) ∙ x .3);
-    last = λ j h. let n = well-formed c ff .limits .nonterminals-to in rw (count, same (8834 + j) (omega arith)) (latest-same c w w′ (terminals c + j) m (lastOf w j) here (G .last j h));
-    link = λ o h.
-        let k : o < m = rw count at h in
-        rw (same (9919 + o) (omega arith), here o k) (latest-same c w w′ (occurringOf c w o) o (linkOf w o) (λ i g. here i (let z : i < m = omega arith in z)) (G .link o k));
-  };
-  nullables =
-      ap₂ (λ (x y : ℕ). x + y * 2 ^ 32)
-      (getD-set-other (set (set w 10431 a) 10432 b) 10433 10431 m 0 (λ z. omega arith) ∙ getD-set-other (set w 10431 a) 10432 10431 b 0 (λ z. omega arith) ∙ getD-set-same w 10431 a 0 (omega arith) ∙ ea)
-      (getD-set-other (set (set w 10431 a) 10432 b) 10433 10432 m 0 (λ z. omega arith) ∙ getD-set-same (set w 10431 a) 10432 b 0 (omega (arith, length-set w 10431 a)) ∙ eb)
-      ∙ mod-add-div' e (2 ^ 32);
-  long = long ∙ lw;
-  high = λ i h. other i (λ z. omega arith) (λ z. omega arith) (λ z. omega arith) ∙ rest i h;
-}
-  where
-    w′ : List ℕ
-    w′ = set (set (set w 10431 a) 10432 b) 10433 m
+module _ (c : List ℕ) (e : ℕ) (w₀ w : List ℕ) (m : ℕ) {w₁ w′ : List ℕ} (ff : formFault c ≡ 0) (few : m ≤ 512) (N : Nulled w e w₁) (M : Stored w₁ occurrencesAt m w′) where
+  same : (i : ℕ) → i < nullablesAt → getD w′ i 0 ≡ getD w i 0
+  same i h = M .other i (λ z. omega arith) ∙ N .low i h
 
-    long : length (set (set (set w 10431 a) 10432 b) 10433 m) ≡ length w
-    long = length-set (set (set w 10431 a) 10432 b) 10433 m ∙ length-set (set w 10431 a) 10432 b ∙ length-set w 10431 a
+  here : (o : ℕ) → o < m → occurringOf c w′ o ≡ occurringOf c w o
+  here o h = occurring-of c w w′ o (same (productionsAt + o) (omega arith)) (same (dotsAt + o) (omega arith))
 
-    other : (i : ℕ) → (i ≡ 10431 → ⊥) → (i ≡ 10432 → ⊥) → (i ≡ 10433 → ⊥) → getD (set (set (set w 10431 a) 10432 b) 10433 m) i 0 ≡ getD w i 0
-    other i x y z = getD-set-other (set (set w 10431 a) 10432 b) 10433 i m 0 z ∙ getD-set-other (set w 10431 a) 10432 i b 0 y ∙ getD-set-other w 10431 i a 0 x
-
-    same : (i : ℕ) → i < 10431 → getD (set (set (set w 10431 a) 10432 b) 10433 m) i 0 ≡ getD w i 0
-    same i h = other i (λ z. omega arith) (λ z. omega arith) (λ z. omega arith)
-
-    count : getD (set (set (set w 10431 a) 10432 b) 10433 m) 10433 0 ≡ m
-    count = getD-set-same (set (set w 10431 a) 10432 b) 10433 m 0 (omega (arith, length-set (set w 10431 a) 10432 b, length-set w 10431 a))
-
-    here : (o : ℕ) → o < m → occurringOf c (set (set (set w 10431 a) 10432 b) 10433 m) o ≡ occurringOf c w o
-    here o h = occurring-of c w w′ o (same (8895 + o) (omega arith)) (same (9407 + o) (omega arith))
+  pub prepared : length w ≡ length w₀ → ((i : ℕ) → halvesEnd ≤ i → getD w i 0 ≡ getD w₀ i 0) → Gathered c e w (productions c) (lengthOf c (productions c)) m → Started c w (productions c) → Prepared c e w₀ w′
+  prepared lw rest G T = record {
+    starts = record { starts = λ s h. same (startsAt + s) (let p = well-formed c ff .limits .productions-to in omega arith) ∙ T .starts s h };
+    occurrences = record {
+      most = rw (M .here) few;
+      occurs = λ o h. let k : o < m = rw (M .here) at h in rw (same (productionsAt + o) (omega arith), same (dotsAt + o) (omega arith)) (G .occurs o k);
+      all = λ r d o. let x = G .all r d o (inl (o .production)) in let k = x .1 in (x .0, rw (M .here) k, same (productionsAt + x .0) (omega arith) ∙ x .2, same (dotsAt + x .0) (omega arith) ∙ x .3);
+      last = λ j h. let n = well-formed c ff .limits .nonterminals-to in rw (M .here, same (lastsAt + j) (omega arith)) (latest-same c w w′ (terminals c + j) m (lastOf w j) here (G .last j h));
+      link = λ o h.
+          let k : o < m = rw (M .here) at h in
+          rw (same (linksAt + o) (omega arith), here o k) (latest-same c w w′ (occurringOf c w o) o (linkOf w o) (λ i g. here i (let z : i < m = omega arith in z)) (G .link o k));
+    };
+    nullables = nullables-same w₁ w′ (λ i l h. M .other i (λ z. omega arith)) ∙ N .nullables;
+    long = M .long ∙ N .long ∙ lw;
+    high = λ i h. M .other i (λ z. omega arith) ∙ N .high i (omega arith) ∙ rest i h;
+  }

@@ -5,6 +5,7 @@ use mathlib.Core.Logic.{_⊎_}
 use mathlib.Core.List.{List}
 use lib.ListN.{length, getD}
 use Rattle.grammar.specs.Card.{terminals, nonterminals, productions, lengthOf, startOf}
+use Rattle.transitions.specs.Places.{lastsAt, nullablesAt, halvesEnd}
 use Rattle.transitions.specs.Area.{startingOf, lastOf, productionOf, dotOf, linkOf, nullablesOf}
 use Rattle.transitions.specs.Occurrences.{Occurs, occurringOf, Latest, Occurrences}
 
@@ -16,11 +17,11 @@ pub record Gathered (c : List ℕ) (e : ℕ) (w : List ℕ) (r d m : ℕ) : Type
   pub last : (j : ℕ) → j < nonterminals c → Latest c w (terminals c + j) m (lastOf w j)
   pub link : (o : ℕ) → o < m → Latest c w (occurringOf c w o) o (linkOf w o)
 
--- w′ is w but for the places from 8834 to 10431
+-- w′ is w but for the places from lastsAt to nullablesAt
 pub record Between (w w′ : List ℕ) : Type 0 where
   pub long : length w′ ≡ length w
-  pub low : (i : ℕ) → i < 8834 → getD w′ i 0 ≡ getD w i 0
-  pub high : (i : ℕ) → 10431 ≤ i → getD w′ i 0 ≡ getD w i 0
+  pub low : (i : ℕ) → i < lastsAt → getD w′ i 0 ≡ getD w i 0
+  pub high : (i : ℕ) → nullablesAt ≤ i → getD w′ i 0 ≡ getD w i 0
 
 -- the starts of the productions below r
 pub record Started (c w : List ℕ) (r : ℕ) : Type 0 where
@@ -31,12 +32,12 @@ pub record Collected (c : List ℕ) (e : ℕ) (w w′ : List ℕ) (m : ℕ) : Ty
   pub gathered : Gathered c e w′ (productions c) (lengthOf c (productions c)) m
   pub started : Started c w′ (productions c)
   pub long : length w′ ≡ length w
-  pub high : (i : ℕ) → 10431 ≤ i → getD w′ i 0 ≡ getD w i 0
+  pub high : (i : ℕ) → nullablesAt ≤ i → getD w′ i 0 ≡ getD w i 0
 
--- all that the card gives, for the nullable nonterminals e; places from 10434 on are as they were
+-- all that the card gives, for the nullable nonterminals e; places from halvesEnd on are as they were
 pub record Prepared (c : List ℕ) (e : ℕ) (w w′ : List ℕ) : Type 0 where
   pub starts : Started c w′ (productions c)
   pub occurrences : Occurrences c e w′
   pub nullables : nullablesOf w′ ≡ e
   pub long : length w′ ≡ length w
-  pub high : (i : ℕ) → 10434 ≤ i → getD w′ i 0 ≡ getD w i 0
+  pub high : (i : ℕ) → halvesEnd ≤ i → getD w′ i 0 ≡ getD w i 0

@@ -3,6 +3,7 @@ ghost use mathlib.Core.Path.{_≡_};
 ghost use Prim.Native.Nat.{_<_, _≤_};
 ghost use lib.ListN.{length};
 ghost use Rattle.grammar.specs.Card.{productions, lengthOf, startOf, formFault};
+ghost use Rattle.areas.specs.Areas.{halvesSize};
 ghost use Rattle.occurrences.specs.Stores.{Cleared, Occurred};
 ghost use Rattle.occurrences.specs.Gathers.{Gathered, Between, Collected, Prepared};
 
@@ -20,20 +21,19 @@ pub fn clear(w: &mut [u32], b: usize, e: usize)
 
 // Puts symbol d of production r, nonterminal number j, down as occurrence m.
 fn occur(w: &mut [u32], m: u32, r: u32, d: u32, j: u32)
-    requires { ⌜ (m < 512) × (j < 60) × (16384 ≤ length (now w)) ⌝ }
+    requires { ⌜ (m < 512) × (j < 60) × (halvesSize ≤ length (now w)) ⌝ }
     ensures { λ _. ⌜ Occurred (now (w .entry)) m r d j (now (w .exit)) ⌝ }
 {
-    let o = card::wide32(m);
-    let l = 8834 + card::wide32(j);
-    w[8895 + o] = r;
-    w[9407 + o] = d;
-    w[9919 + o] = w[l];
-    w[l] = m + 1;
+    transitions::put(w, transitions::PRODUCTIONS_AT, m, r);
+    transitions::put(w, transitions::DOTS_AT, m, d);
+    let before = transitions::last(w, j);
+    transitions::put(w, transitions::LINKS_AT, m, before);
+    transitions::put(w, transitions::LASTS_AT, j, m + 1);
 }
 
 // The occurrences in production r, from its end as far as what is behind is nullable; its symbols begin at s, and m occurrences are there.
 fn tail(c: &[u16], w: &mut [u32], e: u64, r: u16, s: u32, m: u32) -> u32
-    requires { ⌜ (formFault (now c) ≡ 0) × (r < productions (now c)) × (s ≡ startOf (now c) r) × (16384 ≤ length (now w)) × Gathered (now c) e (now w) r (lengthOf (now c) r) m ⌝ }
+    requires { ⌜ (formFault (now c) ≡ 0) × (r < productions (now c)) × (s ≡ startOf (now c) r) × (halvesSize ≤ length (now w)) × Gathered (now c) e (now w) r (lengthOf (now c) r) m ⌝ }
     ensures { λ v. ⌜ Gathered (now (c .entry)) e (now (w .exit)) r 0 v × Between (now (w .entry)) (now (w .exit)) ⌝ }
 {
     let t = card::wider(card::terminals(c));
@@ -56,7 +56,7 @@ fn tail(c: &[u16], w: &mut [u32], e: u64, r: u16, s: u32, m: u32) -> u32
 
 // The starts of the right sides and the occurrences in them; the answer is how many.
 fn gather(c: &[u16], w: &mut [u32], e: u64) -> u32
-    requires { ⌜ (formFault (now c) ≡ 0) × (16384 ≤ length (now w)) × Gathered (now c) e (now w) 0 (lengthOf (now c) 0) 0 ⌝ }
+    requires { ⌜ (formFault (now c) ≡ 0) × (halvesSize ≤ length (now w)) × Gathered (now c) e (now w) 0 (lengthOf (now c) 0) 0 ⌝ }
     ensures { λ m. ⌜ Collected (now (c .entry)) e (now (w .entry)) (now (w .exit)) m ⌝ }
 {
     let p = card::productions(c);
@@ -64,8 +64,7 @@ fn gather(c: &[u16], w: &mut [u32], e: u64) -> u32
     let mut m: u32 = 0;
     let mut r: u16 = 0;
     while r < p {
-        let i = 8705 + card::wide(r);
-        w[i] = s;
+        transitions::put(w, transitions::STARTS_AT, card::wider(r), s);
         m = tail(c, w, e, r, s, m);
         s += card::wider(card::length(c, r));
         r += 1;
@@ -75,12 +74,11 @@ fn gather(c: &[u16], w: &mut [u32], e: u64) -> u32
 
 // All that the card gives, with the nullable nonterminals e.
 pub fn prepare(c: &[u16], w: &mut [u32], e: u64)
-    requires { ⌜ (formFault (now c) ≡ 0) × (16384 ≤ length (now w)) ⌝ }
+    requires { ⌜ (formFault (now c) ≡ 0) × (halvesSize ≤ length (now w)) ⌝ }
     ensures { λ _. ⌜ Prepared (now (c .entry)) e (now (w .entry)) (now (w .exit)) ⌝ }
 {
-    clear(w, 8834, 8894);
+    clear(w, transitions::LASTS_AT, transitions::PRODUCTIONS_AT);
     let m = gather(c, w, e);
-    w[10431] = (e % 4294967296) as u32;
-    w[10432] = (e / 4294967296) as u32;
-    w[10433] = m;
+    transitions::put_nullables(w, e);
+    transitions::put(w, transitions::OCCURRENCES_AT, 0, m);
 }

@@ -1,15 +1,14 @@
 -- What the loop of `run` keeps, and the laws of its ways out, in the values that the code has.
 use mathlib.Core.Path.{_≡_, refl, sym, ap, subst, _∙_}
 use mathlib.Core.Bool.{false}
-use mathlib.Core.List.{List, _∷_, _++_}
-use Prim.Native.Nat.{ℕ, zero, suc, _+_, _-_, _*_, _<_, _≤_}
-use native.Mathlib.Nat.{not-suc-le-zero}
-use native.Mathlib.Numerals.{sub-one}
+use mathlib.Core.List.{List, _∷_}
+use Prim.Native.Nat.{ℕ, _+_, _-_, _*_, _<_, _≤_}
 use native.Mathlib.Omega.{arith}
 use lib.ListN.{length, getD}
 use lib.Dec.{eqb}
-use borrow.Author.Tests.{eq-eqb, ne-eqb}
-use Rattle.machine.specs.Machine.{Machine, Next, actionOf, movedBy, Outcome, after, run, expected, counts, reportOf}
+use Rattle.machine.specs.Report.{numbersOf}
+use Rattle.machine.specs.ComputedRun.{Machine, Next, actionOf, movedBy, Outcome, after, run, endedAt, wrongAt, reportOf}
+use Rattle.machine.proofs.RunLaws.{run-wrong, run-none, run-more}
 use Rattle.tables.specs.declared.Shape.{Shape}
 use Rattle.machine.proofs.Checked.{Passed}
 use Rattle.steps.specs.State.{machineOf, stopNumber, Held, Stepped}
@@ -17,28 +16,10 @@ use Rattle.steps.specs.declared.Stop.{Stop}
 use Rattle.steps.specs.declared.Stop.the-variants.{StackFull, ListFull, Broken}
 use Rattle.steps.specs.declared.Next.the-variants.{Ended, Moved, Accepted}
 use Rattle.steps.specs.declared.State.{State}
-use Rattle.parser.specs.Answer.{numbers, Ends}
+use Rattle.parser.specs.Answer.{numbers}
+use Rattle.parser.specs.Phases.{reached, Ends}
 use Rattle.parser.specs.declared.Answer.{Answer}
 use Rattle.parser.proofs.Held.{action-is}
-
--- ---- the run, by the test of its first action
-
-module _ (t l : List ℕ) (m : Machine) where
-  run-wrong : (k : ℕ) → actionOf t l m ≡ 0 → run t l k m ≡ record { number = 31; final = m }
-  unfolding run
-  run-wrong zero e = rw (eq-eqb (actionOf t l m) 0 e)
-  run-wrong (suc k) e = rw (eq-eqb (actionOf t l m) 0 e)
-
-  run-none : (k : ℕ) → k ≡ 0 → (actionOf t l m ≡ 0 → ⊥) → run t l k m ≡ record { number = 32; final = m }
-  unfolding run
-  run-none k z e = rw (z, ne-eqb (actionOf t l m) 0 e)
-
-  run-more : (k : ℕ) → 0 < k → (actionOf t l m ≡ 0 → ⊥) → run t l k m ≡ after (run t l (k - 1)) (movedBy t (actionOf t l m) m)
-  unfolding run
-  run-more zero h e = absurd (not-suc-le-zero h)
-  run-more (suc k) h e = rw (ne-eqb (actionOf t l m) 0 e, sub-one (suc k))
-
--- ---- the loop
 
 pub record Going (t l cs st₀ li₀ : List ℕ) (a : ℕ) (z : Shape) (s₀ : State) (st li : List ℕ) (s : State) : Type 0 where
   pub same : run t l (a - s .steps) (machineOf st li s) ≡ run t l a (machineOf st₀ li₀ s₀)
@@ -48,11 +29,11 @@ pub record Going (t l cs st₀ li₀ : List ℕ) (a : ℕ) (z : Shape) (s₀ : S
   pub lists : length li ≡ length li₀
 
 module _ {t : List ℕ} {r : Answer} where
-  ends-31 : (m : Machine) (o : Outcome) → record { number = 31; final = m } ≡ o → numbers r ≡ 31 ∷ counts m ++ expected t m → Ends t o r (m .stack) (m .list)
+  ends-31 : (m : Machine) (o : Outcome) → record { number = 31; final = m } ≡ o → numbers r ≡ numbersOf (wrongAt t m) → Ends t o r (m .stack) (m .list)
   unfolding reportOf
   ends-31 m o e h = subst (λ (o : Outcome). Ends t o r (m .stack) (m .list)) e (record { answer = h; stack = refl; list = refl })
 
-  ends-else : (n : ℕ) (m : Machine) (o : Outcome) → eqb n 31 ≡ false → record { number = n; final = m } ≡ o → numbers r ≡ n ∷ counts m → Ends t o r (m .stack) (m .list)
+  ends-else : (n : ℕ) (m : Machine) (o : Outcome) → eqb n 31 ≡ false → record { number = n; final = m } ≡ o → numbers r ≡ numbersOf (endedAt n m) → Ends t o r (m .stack) (m .list)
   unfolding reportOf
   ends-else n m o d e h =
       subst (λ (o : Outcome). Ends t o r (m .stack) (m .list)) e (record { answer = rw d h; stack = refl; list = refl })
@@ -67,11 +48,11 @@ module _ {t l cs st₀ li₀ : List ℕ} {a : ℕ} {z : Shape} {s₀ : State} {s
   act : x ≡ actionOf t l (machineOf st li s)
   act = action-is (g .held) p ex
 
-  pub stop-31 : {r : Answer} → x ≡ 0 → numbers r ≡ 31 ∷ counts (machineOf st li s) ++ expected t (machineOf st li s) → Ends t (run t l a (machineOf st₀ li₀ s₀)) r st li
+  pub stop-31 : {r : Answer} → x ≡ 0 → numbers r ≡ numbersOf (wrongAt t (machineOf st li s)) → Ends t (run t l a (machineOf st₀ li₀ s₀)) r st li
   stop-31 e h = ends-31 (machineOf st li s) _ (sym (run-wrong t l (machineOf st li s) (a - s .steps) (sym act ∙ e)) ∙ g .same) h
 
   module _ (nz : x ≡ 0 → ⊥) where
-    pub stop-32 : {r : Answer} → s .steps ≡ a → numbers r ≡ 32 ∷ counts (machineOf st li s) → Ends t (run t l a (machineOf st₀ li₀ s₀)) r st li
+    pub stop-32 : {r : Answer} → s .steps ≡ a → numbers r ≡ 32 ∷ reached s → Ends t (run t l a (machineOf st₀ li₀ s₀)) r st li
     stop-32 e h =
         ends-else 32 (machineOf st li s) _ refl
         (sym (run-none t l (machineOf st li s) (a - s .steps) (omega arith) (λ e. nz (act ∙ e))) ∙ g .same) h
@@ -88,13 +69,13 @@ module _ {t l cs st₀ li₀ : List ℕ} {a : ℕ} {z : Shape} {s₀ : State} {s
 
       module _ {st′ li′ : List ℕ} where
         pub stop-step : {e : Stop} {r : Answer} → Stepped t cs z s st′ li′ (Ended e) (movedBy t x (machineOf st li s))
-            → numbers r ≡ stopNumber e ∷ counts (machineOf st′ li′ s) → Ends t (run t l a (machineOf st₀ li₀ s₀)) r st′ li′
+            → numbers r ≡ stopNumber e ∷ reached s → Ends t (run t l a (machineOf st₀ li₀ s₀)) r st′ li′
         unfolding after
         stop-step {e} y h = ends-else (stopNumber e) (machineOf st′ li′ s) _ (stop-number e) (stepped (y .next)) h
 
         module _ {s′ : State} where
           pub accept-step : {r : Answer} → Stepped t cs z s st′ li′ (Accepted s′) (movedBy t x (machineOf st li s))
-              → numbers r ≡ 0 ∷ counts (machineOf st′ li′ s′) → Ends t (run t l a (machineOf st₀ li₀ s₀)) r st′ li′
+              → numbers r ≡ 0 ∷ reached s′ → Ends t (run t l a (machineOf st₀ li₀ s₀)) r st′ li′
           unfolding after
           accept-step y h = ends-else 0 (machineOf st′ li′ s′) _ refl (stepped (y .next)) h
 

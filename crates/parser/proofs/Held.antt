@@ -1,20 +1,24 @@
 -- What the checks and the state between steps give each call of the loop.
-use mathlib.Core.Path.{_≡_, sym, _∙_}
-use mathlib.Core.List.{List, _∷_, []}
+use mathlib.Core.Path.{_≡_, sym, ap, _∙_}
+use mathlib.Core.List.{List, _∷_, [], _++_}
 use Prim.Native.Nat.{ℕ, _+_, _-_, _*_, _^_, _<_, _≤_, zero-le}
 use native.Mathlib.Omega.{arith}
 use lib.ListN.{length, set, getD, drop, length-set}
 use lib.Seq.{getD-set-same}
 use lib.Count.{ones}
 use Rattle.tables.specs.Layout.{states, terminals, width, cellOf}
-use Rattle.machine.specs.Machine.{topOf, actionOf, expectedWord, expected}
+use Rattle.machine.specs.Report.{numbersOf}
+use Rattle.machine.specs.ComputedRun.{topOf, actionOf, expectedWord, wrongAt}
 use Rattle.tables.specs.Shape.{Shaped}
 use Rattle.tables.specs.declared.Shape.{Shape}
 use Rattle.tables.proofs.Places.{cell-up}
 use Rattle.machine.proofs.Checked.{Checked, Passed, shift-passed, reduce-passed, next-passed, cell-within}
 use Rattle.steps.specs.State.{machineOf, Held, Steppable}
 use Rattle.steps.specs.declared.State.{State}
-use Rattle.steps.proofs.Words.{ones-expected}
+use Rattle.parser.specs.Answer.{countsOf, numbers}
+use Rattle.parser.specs.Phases.{reached}
+use Rattle.parser.specs.declared.Counts.{Counts}
+use Rattle.parser.specs.declared.Answer.the-variants.{NoAction}
 
 -- the stack starts with state 0
 pub held-start : {t l cs li : List ℕ} {z : Shape} (st : List ℕ) → Passed t l (length st) → Shaped t z → cs ≡ drop (z .cells) t
@@ -56,11 +60,10 @@ module _ {t cs st li : List ℕ} {z : Shape} {s : State} (h : Held t cs st li z 
       let w : s .top * z .width + (terminals t - 1) < length cs = rw (h .rows) (cell-within (h .checked) (h .shaped) (s .top) (terminals t - 1) top-in (last-terminal (h .checked))) in
       (omega (arith, h .shaped .terminals-are), omega (arith, h .shaped .terminals-are))
 
-  pub expected-is : {w n : ℕ} → w ≡ expectedWord t (s .top) (terminals t) → n ≡ ones w
-      → s .position ∷ w ∷ n ∷ [] ≡ expected t (machineOf st li s)
-  unfolding expected
-  expected-is ew en =
-      rw (en, ew, ← h .top-is, ones-expected t (s .top) (terminals t))
+  pub wrong-is : {c : Counts} {w n : ℕ} → countsOf c ≡ reached s → w ≡ expectedWord t (s .top) (terminals t) → n ≡ ones w
+      → numbers (NoAction (s .position) w n c) ≡ numbersOf (wrongAt t (machineOf st li s))
+  unfolding wrongAt
+  wrong-is {w = w} {n} ec ew en = ap (λ (a : List ℕ). 31 ∷ a ++ s .position ∷ w ∷ n ∷ []) ec ∙ rw (en, ew, ← h .top-is)
 
   module _ {l : List ℕ} {n : ℕ} (p : Passed t l n) where
     pub action-within : getD l (s .position) 0 + s .top * z .width < length cs

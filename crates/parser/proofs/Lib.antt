@@ -1,3 +1,4 @@
 pub mod Held
 pub mod Going
 pub mod Whole
+pub mod Listing

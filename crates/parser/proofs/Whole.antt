@@ -1,34 +1,33 @@
 -- From the checks and the run to the whole reading.
-use mathlib.Core.Path.{_≡_, refl}
-use mathlib.Core.Bool.{false}
+use mathlib.Core.Path.{_≡_, refl, sym}
+use mathlib.Core.Logic.{_≢_}
 use mathlib.Core.List.{List}
 use Prim.Native.Nat.{ℕ}
+use native.Mathlib.Omega.{arith}
 use lib.ListN.{length}
-use lib.Dec.{eqb}
-use borrow.Author.Tests.{eq-eqb}
-use Rattle.machine.specs.Machine.{run, start}
-use Rattle.machine.specs.Checks.{refusalOf, reading}
+use Rattle.machine.specs.Checks.{refusalOf}
+use Rattle.machine.specs.ComputedRun.{run, start, reading}
+use Rattle.machine.proofs.ReadsLaws.{unrefused, refused-is}
 use Rattle.table_checks.specs.Verdict.{refusalNumber}
 use Rattle.table_checks.specs.declared.Refusal.{Refusal}
 use Rattle.table_checks.specs.declared.Refusal.the-variants.{TableShort, SizesWrong, ProductionWrong, CellWrong, InputLong, TerminalWrong, NoStack}
-use Rattle.parser.specs.Answer.{Ends, ReadsAs}
+use Rattle.parser.specs.Answer.{ReadsAs}
+use Rattle.parser.specs.Phases.{Ends}
 use Rattle.parser.specs.declared.Answer.{Answer}
 use Rattle.parser.specs.declared.Answer.the-variants as answer
 
+not-zero : (e : Refusal) → refusalNumber e ≢ 0
+not-zero TableShort z = omega arith
+not-zero SizesWrong z = omega arith
+not-zero ProductionWrong z = omega arith
+not-zero CellWrong z = omega arith
+not-zero InputLong z = omega arith
+not-zero TerminalWrong z = omega arith
+not-zero NoStack z = omega arith
+
 module _ (t l st li : List ℕ) (a : ℕ) where
   pub reads-on : {r : Answer} {st′ li′ : List ℕ} → refusalOf t l (length st) ≡ 0 → Ends t (run t l a (start st li)) r st′ li′ → ReadsAs (reading t l st li a) r st′ li′
-  unfolding reading
-  reads-on e h = rw (eq-eqb (refusalOf t l (length st)) 0 e) (record { answer = h .answer; stack = h .stack; list = h .list })
-
-  not-zero : (e : Refusal) → eqb (refusalNumber e) 0 ≡ false
-  not-zero TableShort = refl
-  not-zero SizesWrong = refl
-  not-zero ProductionWrong = refl
-  not-zero CellWrong = refl
-  not-zero InputLong = refl
-  not-zero TerminalWrong = refl
-  not-zero NoStack = refl
+  reads-on e h = rw (unrefused t l st li a e (run t l a (start st li)) refl) (record { answer = h .answer; stack = h .stack; list = h .list })
 
   pub refuses : (e : Refusal) → refusalNumber e ≡ refusalOf t l (length st) → ReadsAs (reading t l st li a) (answer.Refused e) st li
-  unfolding reading
-  refuses e h = rw (← h, not-zero e) (record { answer = refl; stack = refl; list = refl })
+  refuses e h = rw (refused-is t l st li a (refusalNumber e) (sym h) (not-zero e)) (record { answer = refl; stack = refl; list = refl })

@@ -2,8 +2,7 @@
 use Prim.Native.Nat.{ℕ}
 use mathlib.Core.Path.{_≡_}
 use mathlib.Core.List.{List, [], _∷_, _++_}
-use Rattle.machine.specs.Machine.{Outcome, reportOf}
-use Rattle.machine.specs.Checks.{Reading}
+use Rattle.machine.specs.Report.{numbersOf, Reading}
 use Rattle.table_checks.specs.Verdict.{refusalNumber}
 use Rattle.parser.specs.declared.Counts.{Counts}
 use Rattle.parser.specs.declared.Answer.{Answer}
@@ -23,14 +22,8 @@ numbers (StackFull c) = 33 ∷ countsOf c
 numbers (ListFull c) = 34 ∷ countsOf c
 numbers (Broken c) = 35 ∷ countsOf c
 
--- the answer and both areas at exit are those of a reading
+-- the answer and both areas at exit are those of a reading; no two reports have the same numbers (`numbers-tell` of crates/machine)
 pub record ReadsAs (g : Reading) (r : Answer) (st li : List ℕ) : Type 0 where
-  pub answer : numbers r ≡ g .report
+  pub answer : numbers r ≡ numbersOf (g .report)
   pub stack : st ≡ g .stack
   pub list : li ≡ g .list
-
--- the answer and both areas at exit are those of an outcome of the machine
-pub record Ends (t : List ℕ) (o : Outcome) (r : Answer) (st li : List ℕ) : Type 0 where
-  pub answer : numbers r ≡ reportOf t o
-  pub stack : st ≡ o .final .stack
-  pub list : li ≡ o .final .list

@@ -6,13 +6,16 @@ use table_checks::Refusal;
 use table_checks::Verdict;
 use tables::Shape;
 ghost use mathlib.Core.Path.{_≡_};
-ghost use mathlib.Core.List.{List, _∷_, _++_};
+ghost use mathlib.Core.List.{List, _∷_};
 ghost use Prim.Native.Nat.{ℕ, _+_, _*_, _≤_};
 ghost use lib.ListN.{length};
-ghost use Rattle.machine.specs.Machine.{run as runs, start, counts, expected};
-ghost use Rattle.machine.specs.Checks.{refusalOf, reading};
+ghost use Rattle.machine.specs.Checks.{refusalOf};
+ghost use Rattle.machine.specs.Report.{numbersOf};
+ghost use Rattle.machine.specs.ComputedRun.{run as runs, start, wrongAt, reading};
 ghost use Rattle.steps.specs.State.{machineOf, stopNumber, Held};
-ghost use Rattle.parser.specs.Answer.{countsOf, numbers, ReadsAs, Ends};
+ghost use Rattle.parser.specs.Answer.{countsOf, numbers, ReadsAs};
+ghost use Rattle.parser.specs.Phases.{reached, Ends};
+ghost use Rattle.parser.specs.Terminals.{Lists};
 
 // The steps made, the stack places in use and the productions listed.
 pub struct Counts {
@@ -21,7 +24,7 @@ pub struct Counts {
     pub listed: usize,
 }
 
-// A refusal, or how a reading ended; `numbers` gives the paper's number and values of each.
+// A refusal, or how a reading ended; `numbers` of specs/Answer.antt gives the paper's number and values of each.
 pub enum Answer {
     Refused(Refusal),
     Accepted(Counts),
@@ -40,7 +43,7 @@ pub enum Answer {
 }
 
 fn count(s: State) -> Counts
-    ensures { λ r. ⌜ ((st li : List ℕ) → countsOf r ≡ counts (machineOf st li s)) ⌝ }
+    ensures { λ r. ⌜ countsOf r ≡ reached s ⌝ }
 {
     Counts {
         steps: s.steps,
@@ -51,7 +54,7 @@ fn count(s: State) -> Counts
 
 fn no_action(cells: &[u16], z: Shape, s: State) -> Answer
     requires { ⌜ (z .terminals ≤ 64) × (s .top * z .width + z .terminals ≤ length (now cells)) ⌝ }
-    ensures { λ r. ⌜ ((t st li : List ℕ) → Held t (now (cells .entry)) st li z s → numbers r ≡ 31 ∷ counts (machineOf st li s) ++ expected t (machineOf st li s)) ⌝ }
+    ensures { λ r. ⌜ ((t st li : List ℕ) → Held t (now (cells .entry)) st li z s → numbers r ≡ numbersOf (wrongAt t (machineOf st li s))) ⌝ }
 {
     let word = steps::expected(cells, z, s.top);
     let n = sets::size(word);
@@ -65,7 +68,7 @@ fn no_action(cells: &[u16], z: Shape, s: State) -> Answer
 }
 
 fn stopped(e: Stop, s: State) -> Answer
-    ensures { λ r. ⌜ ((st li : List ℕ) → numbers r ≡ stopNumber e ∷ counts (machineOf st li s)) ⌝ }
+    ensures { λ r. ⌜ numbers r ≡ stopNumber e ∷ reached s ⌝ }
 {
     let c = count(s);
     match e {
@@ -128,4 +131,21 @@ pub fn parse(
         Verdict::Refused(e) => Answer::Refused(e),
         Verdict::Passed => run(table, input, stack, list, step_limit),
     }
+}
+
+// The terminals of an expected set, ascending, with zeros after them; the result is how many they are.
+pub fn terminals(expected: u64, out: &mut [u8; 64]) -> usize
+    ensures { λ n. ⌜ Lists expected n (now (out .exit)) ⌝ }
+{
+    let mut list = [0u8; 64];
+    let mut left = expected;
+    let mut n: usize = 0;
+    while left != 0 {
+        let m = sets::lowest(left);
+        list[n] = m as u8;
+        left = sets::rest(left);
+        n += 1;
+    }
+    *out = list;
+    n
 }

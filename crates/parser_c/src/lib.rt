@@ -5,9 +5,10 @@ use table_checks::Refusal;
 ghost use mathlib.Core.Path.{_≡_};
 ghost use mathlib.Core.List.{_∷_, []};
 ghost use Rattle.sets.specs.Bit.{Lowest};
-ghost use Rattle.machine.specs.Checks.{reading};
+ghost use Rattle.machine.specs.ComputedRun.{reading};
 ghost use Rattle.table_checks.specs.Verdict.{refusalNumber};
 ghost use Rattle.parser.specs.Answer.{countsOf, numbers};
+ghost use Rattle.parser.specs.Terminals.{Lists};
 ghost use Rattle.parser_c.specs.Out.{padded, WritesOut};
 
 fn end(n: u64, c: Counts) -> [u64; 7]
@@ -79,4 +80,12 @@ pub extern "C" fn sidumza_lowest(expected: u64) -> u32
     ensures { λ r. ⌜ Lowest 64 expected r ⌝ }
 {
     sets::lowest(expected)
+}
+
+// The terminals of an expected set, ascending, with zeros after them; the result is how many they are.
+#[no_mangle]
+pub extern "C" fn sidumza_terminals(expected: u64, out: &mut [u8; 64]) -> usize
+    ensures { λ n. ⌜ Lists expected n (now (out .exit)) ⌝ }
+{
+    parser::terminals(expected, out)
 }

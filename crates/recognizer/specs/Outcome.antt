@@ -4,10 +4,12 @@ use mathlib.Core.Path.{_≡_}
 use mathlib.Core.Logic.{_≢_}
 use mathlib.Core.List.{List}
 use Rattle.grammar.specs.Card.{grammarOf}
-use Rattle.machine.specs.Checks.{Reading, reading}
+use Rattle.machine.specs.Report.{Reading}
+use Rattle.machine.specs.ComputedRun.{reading}
 use Rattle.claim.specs.Claim.{Demand3}
-use Rattle.lalr.specs.Generator.{Generated, made, generated}
-use Rattle.generator.specs.Answer.{meaning}
+use Rattle.lalr.specs.Answer.{made, numbersOf, Generated}
+use Rattle.lalr.specs.ComputedGenerator.{generated}
+use Rattle.generator.specs.Answer.{numbers}
 use Rattle.generator.specs.declared.Answer as generator
 use Rattle.parser.specs.Answer.{ReadsAs}
 use Rattle.parser.specs.declared.Answer as parser
@@ -17,7 +19,7 @@ use Rattle.recognizer.specs.declared.Outcome.the-variants.{NoTable, Read
 -- the maker made no table and says why; the reader's areas are as they were
 pub record WithoutTable (g : Generated) (a : generator.Answer) (st₀ li₀ st li : List ℕ) : Type 0 where
   pub no-table : g .answer ≢ made
-  pub answer : meaning a ≡ g .answer
+  pub answer : numbers a ≡ numbersOf (g .answer)
   pub stack : st ≡ st₀
   pub list : li ≡ li₀
 

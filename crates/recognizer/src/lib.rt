@@ -26,10 +26,6 @@ pub fn recognize(
             let r = parser::parse(table, input, stack, list, step_limit);
             Outcome::Read(r)
         }
-        generator::Answer::Refused(n) => Outcome::NoTable(generator::Answer::Refused(n)),
-        generator::Answer::Useless(x) => Outcome::NoTable(generator::Answer::Useless(x)),
-        generator::Answer::Conflict(q, m, v, u) => {
-            Outcome::NoTable(generator::Answer::Conflict(q, m, v, u))
-        }
+        _ => Outcome::NoTable(a),
     }
 }

@@ -13,6 +13,7 @@ use Rattle.items.specs.Item.{item}
 use Rattle.grammar.specs.Card.{terminals, leftOf}
 use Rattle.state_sets.specs.Words.{Lowest}
 use Rattle.state_sets.proofs.WordLaws.{out-in, out-or, out-less}
+use Rattle.transitions.specs.Places.{transitionLimit}
 use Rattle.transitions.specs.Area.{leavesOf, nonterminalOf, productionOf, dotOf, linkOf, lastOf, occurrencesOf, nullablesOf}
 use Rattle.transitions.specs.Occurrences.{symbolAt, occurringOf, Latest, Occurs}
 use Rattle.transitions.specs.Data.{Ordered}
@@ -21,6 +22,7 @@ use Rattle.relations.specs.Edge.{Includes}
 use Rattle.relations.specs.Walk.{Through, Remains, Stands, roomOf, Firsts, Nexts}
 use Rattle.relations.specs.Walk.Remains.{now, later}
 use Rattle.relations.specs.Steps.{Opens, Index}
+use Rattle.relations.specs.declared.Relation.the-variants as relation
 use Rattle.relations.specs.declared.Cursor.{Cursor}
 
 pub opens-none : (c w : List ℕ) (q : ℕ) (s : List ℕ) → ((k : ℕ) → item s k ≡ false) → States s (Opens c w q 0)
@@ -64,16 +66,13 @@ module _ (c w : List ℕ) (k x : ℕ) (O : Ordered c w k) where
       let e : terminals c + (nonterminalOf w x - t) ≡ nonterminalOf w x = omega arith in
       rw ea (subst (λ (z : ℕ). Latest c w z (occurrencesOf w) (lastOf w (nonterminalOf w x - t))) e (O .occurrences .last (nonterminalOf w x - t) (omega arith)))
 
-  pub includes-first : (r : Cursor) → Latest c w (nonterminalOf w x) (occurrencesOf w) (r .at) → States (r .set) (Opens c w (leavesOf w x) (r .at)) → Firsts 1 c w k x r
+  pub includes-first : (r : Cursor) → Latest c w (nonterminalOf w x) (occurrencesOf w) (r .at) → States (r .set) (Opens c w (leavesOf w x) (r .at)) → Firsts relation.Includes c w k x r
   unfolding occurringOf
   includes-first r L S = record {
-    sound = record { reads = λ z. absurd (not-zero z); includes = λ z. stands (occurrencesOf w) (r .at) L (r .set) S (omega arith) };
-    all = λ y d. record { inside = d .inside; reads = λ z. absurd (not-zero z); includes = λ z. go y (d .inside) (d .includes not-zero) };
+    sound = stands (occurrencesOf w) (r .at) L (r .set) S (omega arith);
+    all = λ y d. record { inside = d .inside; remaining = go y (d .inside) (d .related) };
   }
     where
-      not-zero : _≡_ {A = ℕ} 1 0 → ⊥
-      not-zero z = omega arith
-
       go : (y : ℕ) → y < k → Includes c w x y → Remains c w x (r .at) (r .set) y
       go y h i =
           let t = O .occurrences .all (i .production) (i .dot) (i .occurs) in
@@ -96,10 +95,7 @@ link-below c w k a O n h = let l = O .occurrences .link (a - 1) (omega arith) .m
 pub record Reached (c w : List ℕ) (x a₀ : ℕ) (s₀ : List ℕ) (a : ℕ) (s : List ℕ) : Type 0 where
   pub stands : Stands c w x a s
   pub kept : (k y : ℕ) → Ordered c w k → y < k → Remains c w x a₀ s₀ y → Remains c w x a s y
-  pub less : roomOf 1 w x a s ≤ roomOf 1 w x a₀ s₀
-
-not-zero : _≡_ {A = ℕ} 1 0 → ⊥
-not-zero z = omega arith
+  pub less : roomOf relation.Includes w x a s ≤ roomOf relation.Includes w x a₀ s₀
 
 pub reached-start : (c w : List ℕ) (x a : ℕ) (s : List ℕ) → Stands c w x a s → Reached c w x a s a s
 reached-start c w x a s S = record { stands = S; kept = λ k y O h r. r; less = omega arith }
@@ -123,19 +119,19 @@ module _ (c w : List ℕ) (x a₀ : ℕ) (s₀ : List ℕ) (a : ℕ) (s : List �
     stays : Stands c w x a s′
     stays = record { within = R .stands .within; symbol = R .stands .symbol; members = λ q l g. R .stands .members q l (out-in s s′ p (low .here h) e q g) }
 
-    pub fewer : roomOf 1 w x a s′ < roomOf 1 w x a s
+    pub fewer : roomOf relation.Includes w x a s′ < roomOf relation.Includes w x a s
     unfolding roomOf
     fewer = let n = out-less s s′ p (low .here h) e 256 h in omega arith
 
-    pub reached-skip : 2048 ≤ y → Reached c w x a₀ s₀ a s′
+    pub reached-skip : transitionLimit ≤ y → Reached c w x a₀ s₀ a s′
     reached-skip g = record {
       stands = stays;
       kept = λ k z O l r. ⊎-elim (λ (q : z ≡ y). absurd (let f = O .few in let b : ⊥ = omega arith in b)) (λ q. q) (took k z O l (R .kept k z O l r));
       less = omega (arith, fewer, R .less);
     }
 
-    pub reached-found : (k : ℕ) → Ordered c w k → 0 < a → y < 2048 → (cursor : Cursor) → cursor .at ≡ a₀ → cursor .set ≡ s₀
-        → Nexts 1 c w k x cursor (record { more = true; node = y; cursor = record { at = a; set = s′ } })
+    pub reached-found : (k : ℕ) → Ordered c w k → 0 < a → y < transitionLimit → (cursor : Cursor) → cursor .at ≡ a₀ → cursor .set ≡ s₀
+        → Nexts relation.Includes c w k x cursor (record { more = true; node = y; cursor = record { at = a; set = s′ } })
     unfolding roomOf occurringOf
     reached-found k O g l cursor ea es =
         let i = I k O in
@@ -144,8 +140,7 @@ module _ (c w : List ℕ) (x a₀ : ℕ) (s₀ : List ℕ) (a : ℕ) (s : List �
         record {
           here = λ t. record {
             inside = i .inside l;
-            reads = λ z. absurd (not-zero z);
-            includes = λ z. record {
+            related = record {
               production = productionOf w (a - 1);
               dot = dotOf w (a - 1);
               occurs = O .occurrences .occurs (a - 1) last;
@@ -155,16 +150,16 @@ module _ (c w : List ℕ) (x a₀ : ℕ) (s₀ : List ℕ) (a : ℕ) (s : List �
             };
           };
           after = λ t z d.
-              ⊎-elim (λ q. inl q) (λ q. inr (record { inside = d .inside; reads = λ z. absurd (not-zero z); includes = λ _. q }))
-              (took k z O (d .inside) (R .kept k z O (d .inside) (rw (ea, es) at (d .includes not-zero))));
+              ⊎-elim (λ q. inl q) (λ q. inr (record { inside = d .inside; remaining = q }))
+              (took k z O (d .inside) (R .kept k z O (d .inside) (rw (ea, es) at (d .remaining))));
           less = λ t. rw (ea, es) (omega (arith, fewer, R .less));
-          sound = λ t. record { reads = λ z. absurd (not-zero z); includes = λ z. stays };
+          sound = λ t. stays;
           none = λ t. absurd (true≢false t);
         }
 
   -- the next occurrence
   pub reached-link : (k p : ℕ) (s′ : List ℕ) → Ordered c w k → 0 < a → Lowest s p → 256 ≤ p → States s′ (Opens c w (leavesOf w x) (linkOf w (a - 1)))
-      → (roomOf 1 w x (linkOf w (a - 1)) s′ < roomOf 1 w x a s) × Reached c w x a₀ s₀ (linkOf w (a - 1)) s′
+      → (roomOf relation.Includes w x (linkOf w (a - 1)) s′ < roomOf relation.Includes w x a s) × Reached c w x a₀ s₀ (linkOf w (a - 1)) s′
   unfolding roomOf
   reached-link k p s′ O g low h S = (
     shorter,
@@ -181,7 +176,7 @@ module _ (c w : List ℕ) (x a₀ : ℕ) (s₀ : List ℕ) (a : ℕ) (s : List �
       L : Latest c w (nonterminalOf w x) (a - 1) (linkOf w (a - 1))
       L = subst (λ (z : ℕ). Latest c w z (a - 1) (linkOf w (a - 1))) (R .stands .symbol g) (O .occurrences .link (a - 1) last)
 
-      shorter : roomOf 1 w x (linkOf w (a - 1)) s′ < roomOf 1 w x a s
+      shorter : roomOf relation.Includes w x (linkOf w (a - 1)) s′ < roomOf relation.Includes w x a s
       shorter = omega (arith, L .most, count-le (item s′) 256)
 
       go : (k z : ℕ) → Ordered c w k → z < k → Remains c w x a s z → Remains c w x (linkOf w (a - 1)) s′ z

@@ -2,4 +2,3 @@ pub mod StateLaws
 pub mod PathLaws
 pub mod ReadLaws
 pub mod IncludeLaws
-pub mod KindLaws

@@ -1,5 +1,5 @@
 -- The edges of reads: the transitions of one state, in their order.
-use mathlib.Core.Path.{_≡_, refl, sym, _∙_, subst}
+use mathlib.Core.Path.{_≡_, sym, _∙_, subst}
 use mathlib.Core.List.{List}
 use mathlib.Core.Bool.{Bool, true, false, false≢true, true≢false}
 use mathlib.Core.Logic.{_⊎_, inl, inr, ⊎-elim}
@@ -9,12 +9,14 @@ use native.Mathlib.Nat.{eq-or-lt-of-le}
 use Rattle.sets.specs.Bit.{bit, Tells}
 use Rattle.sets.proofs.HasLaws.{lt-or-ge}
 use Rattle.grammar.specs.Card.{terminals}
+use Rattle.transitions.specs.Places.{transitionLimit}
 use Rattle.transitions.specs.Area.{nonterminalOf, entersOf, firstOf, nullablesOf}
 use Rattle.transitions.specs.Occurrences.{Nullable}
 use Rattle.transitions.specs.Data.{Ordered}
 use Rattle.relations.specs.Edge.{Reads}
 use Rattle.relations.specs.Walk.{Sound, roomOf, Firsts, Nexts}
 use Rattle.relations.specs.Steps.{Index}
+use Rattle.relations.specs.declared.Relation.the-variants as relation
 use Rattle.relations.specs.declared.Cursor.{Cursor}
 use Rattle.relations.specs.declared.Found.{Found}
 
@@ -44,7 +46,7 @@ index-here w p x i hp l h e c k O =
     let a = O .from p i hp l h in
     record { inside = λ z. a .0; leaves = λ z. a .1; symbol = λ z. e; all = λ y hy ly ny. O .one y i hy (a .0) (ly ∙ sym (a .1)) (ny ∙ sym e) }
 
-pub index-none : (w : List ℕ) (p x i : ℕ) → firstOf w (p + 1) ≤ i → ((y : ℕ) → firstOf w p ≤ y → y < i → nonterminalOf w y ≡ x → ⊥) → (c : List ℕ) (k : ℕ) → Ordered c w k → Index w k p x 2048
+pub index-none : (w : List ℕ) (p x i : ℕ) → firstOf w (p + 1) ≤ i → ((y : ℕ) → firstOf w p ≤ y → y < i → nonterminalOf w y ≡ x → ⊥) → (c : List ℕ) (k : ℕ) → Ordered c w k → Index w k p x transitionLimit
 index-none w p x i h gap c k O = record {
   inside = λ z. absurd (let y : ⊥ = omega arith in y);
   leaves = λ z. absurd (let y : ⊥ = omega arith in y);
@@ -68,19 +70,15 @@ module _ (c w : List ℕ) (k x : ℕ) (O : Ordered c w k) where
   read-to : (y : ℕ) → y < k → Reads c w x y → y < firstOf w (entersOf w x + 1)
   read-to y h r = subst (λ (q : ℕ). y < firstOf w (q + 1)) (r .state) (O .to y h .1)
 
-  pub reads-first : (r : Cursor) → r .at ≡ firstOf w (entersOf w x) → Firsts 0 c w k x r
+  pub reads-first : (r : Cursor) → r .at ≡ firstOf w (entersOf w x) → Firsts relation.Reads c w k x r
   reads-first r e = record {
-    sound = record { reads = λ z. omega arith; includes = λ n. absurd (n refl) };
-    all = λ y d. record {
-      inside = d .inside;
-      reads = λ z. (let l = read-from y (d .inside) (d .reads refl) in omega arith, d .reads refl);
-      includes = λ n. absurd (n refl);
-    };
+    sound = omega arith;
+    all = λ y d. record { inside = d .inside; remaining = (let l = read-from y (d .inside) (d .related) in omega arith, d .related) };
   }
 
   -- no transition from the cursor's on and below i is read
   module _ (cursor : Cursor) (i : ℕ) (gap : (y : ℕ) → cursor .at ≤ y → y < i → Nullable c (nullablesOf w) (nonterminalOf w y) → ⊥) where
-    pub reads-none : (r : Found) → firstOf w (entersOf w x + 1) ≤ i → r .more ≡ false → Nexts 0 c w k x cursor r
+    pub reads-none : (r : Found) → firstOf w (entersOf w x + 1) ≤ i → r .more ≡ false → Nexts relation.Reads c w k x cursor r
     reads-none r h e =
         let no : r .more ≡ true → ⊥ = λ t. true≢false (sym t ∙ e) in
         record {
@@ -88,25 +86,24 @@ module _ (c w : List ℕ) (k x : ℕ) (O : Ordered c w k) where
           after = λ t. absurd (no t);
           less = λ t. absurd (no t);
           sound = λ t. absurd (no t);
-          none = λ t y l. let d = l .reads refl in let g = read-to y (l .inside) (d .1) in gap y (d .0) (omega arith) (d .1 .nullable);
+          none = λ t y l. let d = l .remaining in let g = read-to y (l .inside) (d .1) in gap y (d .0) (omega arith) (d .1 .nullable);
         }
 
-    pub reads-found : (s : List ℕ) → x < k → Sound 0 c w k x cursor → cursor .at ≤ i → i < firstOf w (entersOf w x + 1) → Nullable c (nullablesOf w) (nonterminalOf w i)
-        → Nexts 0 c w k x cursor (record { more = true; node = i; cursor = record { at = i + 1; set = s } })
+    pub reads-found : (s : List ℕ) → x < k → Sound relation.Reads c w x cursor → cursor .at ≤ i → i < firstOf w (entersOf w x + 1) → Nullable c (nullablesOf w) (nonterminalOf w i)
+        → Nexts relation.Reads c w k x cursor (record { more = true; node = i; cursor = record { at = i + 1; set = s } })
     unfolding roomOf
     reads-found s hx S h l n =
-        let b = S .reads refl in
         let a = O .from (entersOf w x) i (O .enters x hx) (omega arith) l in
         record {
-          here = λ t. record { inside = a .0; reads = λ z. record { state = a .1; nullable = n }; includes = λ z. absurd (z refl) };
+          here = λ t. record { inside = a .0; related = record { state = a .1; nullable = n } };
           after = λ t y d.
-              let e = d .reads refl in
+              let e = d .remaining in
               ⊎-elim
               (λ (g : y < i). absurd (gap y (e .0) g (e .1 .nullable)))
               (λ (g : i ≤ y).
-              ⊎-elim (λ (f : i ≡ y). inl (sym f)) (λ (f : i < y). inr (record { inside = d .inside; reads = λ z. (omega arith, e .1); includes = λ z. absurd (z refl) })) (eq-or-lt-of-le g))
+              ⊎-elim (λ (f : i ≡ y). inl (sym f)) (λ (f : i < y). inr (record { inside = d .inside; remaining = (omega arith, e .1) })) (eq-or-lt-of-le g))
               (lt-or-ge y i);
           less = λ t. omega arith;
-          sound = λ t. record { reads = λ z. omega arith; includes = λ z. absurd (z refl) };
+          sound = λ t. omega arith;
           none = λ t. absurd (true≢false t);
         }

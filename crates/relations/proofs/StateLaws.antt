@@ -17,46 +17,44 @@ use Rattle.sets.proofs.HasLaws.{or-cases, or-left, or-right}
 use Rattle.items.specs.Item.{item}
 use Rattle.state_sets.specs.Words.{Lowest}
 use Rattle.state_sets.proofs.WordLaws.{out-in, out-or}
-use Rattle.transitions.specs.Area.{enteringOf, precedes, Paired}
+use Rattle.transitions.specs.Area.{enteringOf, precedes}
 use Rattle.transitions.specs.Data.{Enters}
 use Rattle.relations.specs.Path.{States}
 use Rattle.relations.specs.Steps.{Adds, Into}
 
--- t is s with the numbers from b on joined into the words below j
-pub record Part (w : List ℕ) (b : ℕ) (s : List ℕ) (j : ℕ) (t : List ℕ) : Type 0 where
+-- t is s with the states before q joined into the words below j
+pub record Part (w : List ℕ) (q : ℕ) (s : List ℕ) (j : ℕ) (t : List ℕ) : Type 0 where
   pub most : j ≤ 4
   pub long : length t ≡ 4
-  pub done : (k m : ℕ) → k < j → m < 64 → bit (getD t k 0) m ≡ (bit (getD s k 0) m || bit (getD w (b + 2 * k + m / 32) 0) (m % 32))
+  pub done : (k m : ℕ) → k < j → m < 64 → bit (getD t k 0) m ≡ (bit (getD s k 0) m || precedes w q (64 * k + m))
   pub rest : (k : ℕ) → j ≤ k → getD t k 0 ≡ getD s k 0
 
 below-suc : {k j : ℕ} → k < j + 1 → (k ≡ j) ⊎ (k < j)
 below-suc {k} {j} h = eq-or-lt-of-le (le-of-suc-le-suc (rw add-one at h))
 
-pub part-start : (w : List ℕ) (b : ℕ) (s : List ℕ) → length s ≡ 4 → Part w b s 0 s
-part-start w b s l = record { most = omega arith; long = l; done = λ k m h g. absurd (let z : ⊥ = omega arith in z); rest = λ k h. refl }
+pub part-start : (w : List ℕ) (q : ℕ) (s : List ℕ) → length s ≡ 4 → Part w q s 0 s
+part-start w q s l = record { most = omega arith; long = l; done = λ k m h g. absurd (let z : ⊥ = omega arith in z); rest = λ k h. refl }
 
-module _ (w : List ℕ) (b : ℕ) (s : List ℕ) (j : ℕ) (t : List ℕ) (p : Part w b s j t) where
-  pub part-more : (v : ℕ) → j < 4 → Paired w (b + 2 * j) v → Part w b s (j + 1) (set t j (bitOr (getD t j 0) v))
-  part-more v h pair = record {
+module _ (w : List ℕ) (q : ℕ) (s : List ℕ) (j : ℕ) (t : List ℕ) (p : Part w q s j t) where
+  pub part-more : (v : ℕ) → j < 4 → ((m : ℕ) → m < 64 → bit v m ≡ precedes w q (64 * j + m)) → Part w q s (j + 1) (set t j (bitOr (getD t j 0) v))
+  part-more v h bits = record {
     most = omega arith;
     long = length-set t j _ ∙ p .long;
     done = λ k m l g.
         ⊎-elim
         (λ (e : k ≡ j).
         rw e (ap (λ (x : ℕ). bit x m) (getD-set-same t j (bitOr (getD t j 0) v) 0 (omega (arith, p .long)))
-        ∙ bit-or (getD t j 0) v m ∙ ap₂ (λ (x : ℕ) (y : Bool). bit x m || y) (p .rest j (omega arith)) (pair .bits m g)))
+        ∙ bit-or (getD t j 0) v m ∙ ap₂ (λ (x : ℕ) (y : Bool). bit x m || y) (p .rest j (omega arith)) (bits m g)))
         (λ (q : k < j). ap (λ (x : ℕ). bit x m) (getD-set-other t j k _ 0 (λ e. omega arith)) ∙ p .done k m q g)
         (below-suc l);
     rest = λ k l. getD-set-other t j k _ 0 (λ e. omega arith) ∙ p .rest k (omega arith);
   }
 
-pub part-items : (w : List ℕ) (q : ℕ) (s t : List ℕ) → Part w (6657 + 8 * q) s 4 t → (p : ℕ) → p < 256 → item t p ≡ (item s p || precedes w q p)
-unfolding item precedes
+pub part-items : (w : List ℕ) (q : ℕ) (s t : List ℕ) → Part w q s 4 t → (p : ℕ) → p < 256 → item t p ≡ (item s p || precedes w q p)
+unfolding item
 part-items w q s t part p h =
-    let a : 6657 + 8 * q + 2 * (p / 64) + p % 64 / 32 ≡ 6657 + 8 * q + p / 32 = omega arith in
-    let b : p % 64 % 32 ≡ p % 32 = omega arith in
-    part .done (p / 64) (p % 64) (omega arith) (omega arith)
-    ∙ ap₂ (λ (x y : ℕ). bit (getD s (p / 64) 0) (p % 64) || bit (getD w x 0) y) a b
+    let a : 64 * (p / 64) + p % 64 ≡ p = omega arith in
+    part .done (p / 64) (p % 64) (omega arith) (omega arith) ∙ ap (λ (x : ℕ). bit (getD s (p / 64) 0) (p % 64) || precedes w q x) a
 
 pub adds : (w : List ℕ) (q x : ℕ) (s t : List ℕ) → q < 256 → enteringOf w q ≡ x → ((p : ℕ) → p < 256 → item t p ≡ (item s p || precedes w q p)) → Adds w s x q t
 adds w q x s t h e is = record {
@@ -67,10 +65,10 @@ adds w q x s t h e is = record {
   all = λ p g. is p (g .from) ∙ or-right (item s p) (precedes w q p) (g .before);
 }
 
-pub part-end : (w : List ℕ) (b : ℕ) (s : List ℕ) (j : ℕ) (t : List ℕ) (q x : ℕ) → Part w b s j t → 4 ≤ j → b ≡ 6657 + 8 * q → q < 256 → enteringOf w q ≡ x → Adds w s x q t
-part-end w b s j t q x p h eb hq e =
+pub part-end : (w : List ℕ) (q : ℕ) (s : List ℕ) (j : ℕ) (t : List ℕ) (x : ℕ) → Part w q s j t → 4 ≤ j → q < 256 → enteringOf w q ≡ x → Adds w s x q t
+part-end w q s j t x p h hq e =
     let ej : j ≡ 4 = omega (arith, p .most) in
-    adds w q x s t hq e (part-items w q s t (rw (ej, eb) at p))
+    adds w q x s t hq e (part-items w q s t (rw ej at p))
 
 pub adds-none : (w : List ℕ) (q x : ℕ) (s : List ℕ) → (enteringOf w q ≡ x → ⊥) → Adds w s x q s
 adds-none w q x s n = record { only = λ p l g. inl g; kept = λ p l g. g; all = λ p g. absurd (n (g .symbol)) }

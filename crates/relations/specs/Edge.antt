@@ -6,6 +6,8 @@ use Rattle.grammar.specs.Card.{leftOf}
 use Rattle.transitions.specs.Area.{leavesOf, nonterminalOf, entersOf, nullablesOf}
 use Rattle.transitions.specs.Occurrences.{symbolAt, Nullable, Occurs}
 use Rattle.relations.specs.Path.{Leads}
+use Rattle.relations.specs.declared.Relation.{Relation}
+use Rattle.relations.specs.declared.Relation.the-variants as relation
 
 -- transition x reads transition y: y leaves the state that x enters, and its nonterminal is nullable
 pub record Reads (c w : List ℕ) (x y : ℕ) : Type 0 where
@@ -22,8 +24,12 @@ pub record Includes (c w : List ℕ) (x y : ℕ) : Type 0 where
   pub left : leftOf c production ≡ nonterminalOf w y
   pub leads : Leads c w production dot (leavesOf w x) (leavesOf w y)
 
--- relation number `kind`, 0 for reads and any other number for includes, between k transitions
-pub record Edge (kind : ℕ) (c w : List ℕ) (k x y : ℕ) : Type 0 where
+-- y is related to x by r
+abbrev pub Related : Relation → List ℕ → List ℕ → ℕ → ℕ → Type 0
+Related relation.Reads c w x y = Reads c w x y
+Related relation.Includes c w x y = Includes c w x y
+
+-- the relation r between k transitions
+pub record Edge (r : Relation) (c w : List ℕ) (k x y : ℕ) : Type 0 where
   pub inside : y < k
-  pub reads : kind ≡ 0 → Reads c w x y
-  pub includes : (kind ≡ 0 → ⊥) → Includes c w x y
+  pub related : Related r c w x y

@@ -5,6 +5,7 @@ use mathlib.Core.Logic.{_⊎_}
 use mathlib.Core.Bool.{true}
 use mathlib.Core.List.{List}
 use Rattle.items.specs.Item.{item}
+use Rattle.transitions.specs.Places.{transitionLimit}
 use Rattle.transitions.specs.Area.{leavesOf, nonterminalOf, productionOf, dotOf}
 use Rattle.transitions.specs.Data.{Enters}
 use Rattle.relations.specs.Path.{Leads}
@@ -26,9 +27,9 @@ pub record Opens (c w : List ℕ) (q a p : ℕ) : Type 0 where
   pub some : 0 < a
   pub leads : Leads c w (productionOf w (a - 1)) (dotOf w (a - 1)) q p
 
--- r is the number of the transition from p by x, one of k, or it is 2048 and there is none
+-- r is the number of the transition from p by x, one of k, or it is the limit and there is none
 pub record Index (w : List ℕ) (k p x r : ℕ) : Type 0 where
-  pub inside : r < 2048 → r < k
-  pub leaves : r < 2048 → leavesOf w r ≡ p
-  pub symbol : r < 2048 → nonterminalOf w r ≡ x
+  pub inside : r < transitionLimit → r < k
+  pub leaves : r < transitionLimit → leavesOf w r ≡ p
+  pub symbol : r < transitionLimit → nonterminalOf w r ≡ x
   pub all : (y : ℕ) → y < k → leavesOf w y ≡ p → nonterminalOf w y ≡ x → y ≡ r

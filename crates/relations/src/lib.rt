@@ -8,8 +8,13 @@ ghost use Rattle.transitions.specs.Area.{occurrencesOf};
 ghost use Rattle.transitions.specs.Occurrences.{Nullable};
 ghost use Rattle.transitions.specs.Data.{Ordered};
 ghost use Rattle.relations.specs.Path.{Leads, States};
-ghost use Rattle.relations.specs.Walk.{Ready, Node, Standing, Firsts, Nexts};
+ghost use Rattle.relations.specs.Walk.{Node, Standing, Firsts, Nexts};
 ghost use Rattle.relations.specs.Steps.{Adds, Into, Opens, Index};
+
+pub enum Relation {
+    Includes,
+    Reads,
+}
 
 // A place in the walk along the edges of a node. Reads: `at` is a transition. Includes: `at` - 1 is an occurrence, and `set` the states of it that are left.
 pub struct Cursor {
@@ -31,11 +36,10 @@ fn join_predecessors(w: &[u32], s: [u64; 4], x: u32, q: u32) -> [u64; 4]
     if transitions::entering(w, q) != x {
         return s;
     }
-    let b = 6657 + 8 * card::wide32(q);
     let mut t = s;
     let mut j: usize = 0;
     while j < 4 {
-        t[j] = t[j] | transitions::pair(w, b + 2 * j);
+        t[j] = t[j] | transitions::predecessors(w, q, j);
         j += 1;
     }
     t
@@ -77,7 +81,7 @@ pub fn back(c: &[u16], w: &[u32], q: u32, r: u32, d: u32) -> [u64; 4]
     s
 }
 
-// The number of the transition from state p by the nonterminal x, or 2048 where there is none.
+// The number of the transition from state p by the nonterminal x, or the limit where there is none.
 pub fn index(w: &[u32], p: u32, x: u32) -> u32
     requires { ⌜ p < 256 ⌝ }
     ensures { λ r. ⌜ ((c : List ℕ) (k : ℕ) → Ordered c (now (w .entry)) k → Index (now (w .entry)) k p x r) ⌝ }
@@ -90,7 +94,7 @@ pub fn index(w: &[u32], p: u32, x: u32) -> u32
         }
         i += 1;
     }
-    2048
+    transitions::LIMIT
 }
 
 // Whether x is a nullable nonterminal, by the word e.
@@ -105,7 +109,7 @@ fn nullable(c: &[u16], e: u64, x: u32) -> bool
 }
 
 fn first_reads(w: &[u32], x: u32) -> Cursor
-    ensures { λ r. ⌜ ((c : List ℕ) (k : ℕ) → Ready 0 c (now (w .entry)) k → x < k → Firsts 0 c (now (w .entry)) k x r) ⌝ }
+    ensures { λ r. ⌜ ((c : List ℕ) (k : ℕ) → Ordered c (now (w .entry)) k → x < k → Firsts Relation.Reads c (now (w .entry)) k x r) ⌝ }
 {
     let at = transitions::first(w, transitions::enters(w, x));
     let set = state_sets::empty();
@@ -113,8 +117,8 @@ fn first_reads(w: &[u32], x: u32) -> Cursor
 }
 
 fn next_reads(c: &[u16], w: &[u32], x: u32, cursor: Cursor) -> Found
-    requires { ⌜ Standing 0 (now c) (now w) x cursor ⌝ }
-    ensures { λ r. ⌜ ((k : ℕ) → Ready 0 (now (c .entry)) (now (w .entry)) k → Nexts 0 (now (c .entry)) (now (w .entry)) k x cursor r) ⌝ }
+    requires { ⌜ Standing Relation.Reads (now c) (now w) x cursor ⌝ }
+    ensures { λ r. ⌜ ((k : ℕ) → Ordered (now (c .entry)) (now (w .entry)) k → Nexts Relation.Reads (now (c .entry)) (now (w .entry)) k x cursor r) ⌝ }
 {
     let e = transitions::nullables(w);
     let end = transitions::first(w, transitions::enters(w, x) + 1);
@@ -159,8 +163,8 @@ fn opened(c: &[u16], w: &[u32], q: u32, a: u32) -> [u64; 4]
 }
 
 fn first_includes(c: &[u16], w: &[u32], x: u32) -> Cursor
-    requires { ⌜ Node 1 (now c) (now w) x ⌝ }
-    ensures { λ r. ⌜ ((k : ℕ) → Ready 1 (now (c .entry)) (now (w .entry)) k → Firsts 1 (now (c .entry)) (now (w .entry)) k x r) ⌝ }
+    requires { ⌜ Node (now c) (now w) x ⌝ }
+    ensures { λ r. ⌜ ((k : ℕ) → Ordered (now (c .entry)) (now (w .entry)) k → Firsts Relation.Includes (now (c .entry)) (now (w .entry)) k x r) ⌝ }
 {
     let t = card::wider(card::terminals(c));
     let at = transitions::last(w, transitions::nonterminal(w, x) - t);
@@ -169,8 +173,8 @@ fn first_includes(c: &[u16], w: &[u32], x: u32) -> Cursor
 }
 
 fn next_includes(c: &[u16], w: &[u32], x: u32, cursor: Cursor) -> Found
-    requires { ⌜ Standing 1 (now c) (now w) x cursor ⌝ }
-    ensures { λ r. ⌜ ((k : ℕ) → Ready 1 (now (c .entry)) (now (w .entry)) k → Nexts 1 (now (c .entry)) (now (w .entry)) k x cursor r) ⌝ }
+    requires { ⌜ Standing Relation.Includes (now c) (now w) x cursor ⌝ }
+    ensures { λ r. ⌜ ((k : ℕ) → Ordered (now (c .entry)) (now (w .entry)) k → Nexts Relation.Includes (now (c .entry)) (now (w .entry)) k x cursor r) ⌝ }
 {
     let q = transitions::leaves(w, x);
     let mut at = cursor.at;
@@ -184,7 +188,7 @@ fn next_includes(c: &[u16], w: &[u32], x: u32, cursor: Cursor) -> Found
                 p,
                 card::wider(card::left(c, transitions::production(w, at - 1) as u16)),
             );
-            if y < 2048 {
+            if y < transitions::LIMIT {
                 let next = Cursor { at: at, set: rest };
                 return Found {
                     more: true,
@@ -206,24 +210,24 @@ fn next_includes(c: &[u16], w: &[u32], x: u32, cursor: Cursor) -> Found
     }
 }
 
-// The cursor before all edges of x in relation number `kind`: 0 is reads, any other number includes.
-pub fn first_edge(kind: u32, c: &[u16], w: &[u32], x: u32) -> Cursor
-    requires { ⌜ Node kind (now c) (now w) x ⌝ }
-    ensures { λ r. ⌜ ((k : ℕ) → Ready kind (now (c .entry)) (now (w .entry)) k → Firsts kind (now (c .entry)) (now (w .entry)) k x r) ⌝ }
+// The cursor before all edges of x.
+pub fn first_edge(relation: Relation, c: &[u16], w: &[u32], x: u32) -> Cursor
+    requires { ⌜ Node (now c) (now w) x ⌝ }
+    ensures { λ r. ⌜ ((k : ℕ) → Ordered (now (c .entry)) (now (w .entry)) k → Firsts relation (now (c .entry)) (now (w .entry)) k x r) ⌝ }
 {
-    if kind == 0 {
-        return first_reads(w, x);
+    match relation {
+        Relation::Reads => first_reads(w, x),
+        Relation::Includes => first_includes(c, w, x),
     }
-    first_includes(c, w, x)
 }
 
 // The next edge of x that the cursor gives.
-pub fn next_edge(kind: u32, c: &[u16], w: &[u32], x: u32, cursor: Cursor) -> Found
-    requires { ⌜ Standing kind (now c) (now w) x cursor ⌝ }
-    ensures { λ r. ⌜ ((k : ℕ) → Ready kind (now (c .entry)) (now (w .entry)) k → Nexts kind (now (c .entry)) (now (w .entry)) k x cursor r) ⌝ }
+pub fn next_edge(relation: Relation, c: &[u16], w: &[u32], x: u32, cursor: Cursor) -> Found
+    requires { ⌜ Standing relation (now c) (now w) x cursor ⌝ }
+    ensures { λ r. ⌜ ((k : ℕ) → Ordered (now (c .entry)) (now (w .entry)) k → Nexts relation (now (c .entry)) (now (w .entry)) k x cursor r) ⌝ }
 {
-    if kind == 0 {
-        return next_reads(c, w, x, cursor);
+    match relation {
+        Relation::Reads => next_reads(c, w, x, cursor),
+        Relation::Includes => next_includes(c, w, x, cursor),
     }
-    next_includes(c, w, x, cursor)
 }

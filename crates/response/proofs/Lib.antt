@@ -1,4 +1,5 @@
 pub mod CardText
+pub mod Counted
 pub mod Front
 pub mod Numbers
 pub mod Texts

@@ -11,7 +11,8 @@ use Rattle.lr.specs.States.{States}
 use Rattle.lr.specs.Cells.{Action, shifts, reduces, accepts}
 use Rattle.lr.proofs.ItemLaws.{AllProductive, all-productive}
 use Rattle.lr.proofs.Paths.{state-automaton}
-use Rattle.lalr.specs.Generator.{Answer, made, refused, uselessAt, conflict, numbersOf, cardAnswer}
+use Rattle.lalr.specs.Answer.{Answer, made, refused, uselessAt, conflict, numbersOf}
+use Rattle.lalr.specs.ComputedAnswer.{cardAnswer}
 use Rattle.lalr.specs.Meaning.{Judged}
 use Rattle.lalr.proofs.Main.{card-answer}
 use Rattle.listing.proofs.Room.{Small}

@@ -6,7 +6,7 @@ use Prim.Native.Nat.{ℕ}
 use borrow.Author.Tests.{eq-eqb, ne-eqb}
 use lib.ListN.{getD}
 use Rattle.decimal.specs.Page.{Page, pageOf, page}
-use Rattle.lalr.specs.Generator.{Generated}
+use Rattle.lalr.specs.Answer.{Generated}
 use Rattle.generator.specs.declared.Answer.{Answer}
 use Rattle.generator.specs.Answer.{numbers, GeneratesAs}
 use Rattle.listing.specs.Listing.{tableText, refusalText}
@@ -20,10 +20,6 @@ module _ (out t ns : List ℕ) (p : Page) where
   pub prints-refusal : getD ns 0 0 ≢ 0 → p ≡ page out (refusalText ns) → p ≡ page out (responseText ns t)
   unfolding responseText
   prints-refusal h e = rw (ne-eqb (getD ns 0 0) 0 h) e
-
-  -- the same numbers have the same text
-  pub prints-same : (ms : List ℕ) → ns ≡ ms → p ≡ page out (responseText ms t) → p ≡ page out (responseText ns t)
-  prints-same ms f e = rw f e
 
 -- an answer of the maker, and its text
 pub replies : (g : Generated) (a : Answer) (t z w before after : List ℕ) (n : ℕ) → GeneratesAs g a t z w

@@ -4,13 +4,16 @@ use mathlib.Core.List.{List}
 use Prim.Native.Nat.{ℕ, _≤_}
 use native.Mathlib.Omega.{arith}
 use lib.ListN.{length, take}
+use Rattle.areas.specs.Areas.{tableSize, wordsSize, halvesSize}
 use Rattle.decimal.proofs.Written.{page-text}
-use Rattle.lalr.specs.Generator.{numbersOf, generated}
+use Rattle.lalr.specs.Answer.{numbersOf}
+use Rattle.lalr.specs.ComputedGenerator.{generated}
+use Rattle.listing.specs.Listing.{textSize}
 use Rattle.response.specs.Response.{responseText, cardText, RepliesAs}
 use Rattle.response.proofs.CardText.{card-text, card-room}
 
 pub reply-whole : (t z w c before after : List ℕ) (n : ℕ) {t′ z′ w′ : List ℕ} → RepliesAs (generated t z w c) before after n t′ z′ w′
-    → 32004 ≤ length t → 8192 ≤ length z → 16384 ≤ length w → 195114 ≤ length before → take n after ≡ cardText c
+    → tableSize ≤ length t → wordsSize ≤ length z → halvesSize ≤ length w → textSize ≤ length before → take n after ≡ cardText c
 reply-whole t z w c before after n r h i j k =
     let e : responseText (numbersOf (generated t z w c .answer)) (generated t z w c .table) ≡ cardText c = card-text t z w c h i j in
     page-text before (cardText c) after n (rw e at (r .text)) (omega (arith, card-room c))

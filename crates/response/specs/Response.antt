@@ -7,7 +7,8 @@ use lib.ListN.{getD}
 use lib.Dec.{eqb}
 use Rattle.decimal.specs.Page.{pageOf, page}
 use Rattle.listing.specs.Listing.{tableText, refusalText}
-use Rattle.lalr.specs.Generator.{Generated, numbersOf, cardAnswer, tableOf}
+use Rattle.lalr.specs.Answer.{numbersOf, Generated}
+use Rattle.lalr.specs.ComputedAnswer.{cardAnswer, tableOf}
 
 -- by the numbers of an answer: 0 prints the table, every other number a refusal's line
 unfoldable pub responseText : List ℕ → List ℕ → List ℕ

@@ -3,3 +3,5 @@ pub mod HasLaws
 pub mod CountLaws
 pub mod TestLaws
 pub mod ListLaws
+pub mod CoveredLaws
+pub mod MemberLaws

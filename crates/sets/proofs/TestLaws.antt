@@ -29,7 +29,7 @@ pub and-false : (b : Bool) → (b && false) ≡ false
 and-false true = refl
 and-false false = refl
 
-and-one : (b : Bool) → (b && true) ≡ b
+pub and-one : (b : Bool) → (b && true) ≡ b
 and-one true = refl
 and-one false = refl
 

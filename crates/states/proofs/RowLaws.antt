@@ -13,12 +13,12 @@ use lib.Seq.{getD-set-same, getD-set-other}
 use borrow.Author.Tests.{eq-eqb, ne-eqb}
 use Rattle.closures.proofs.AfterLaws.{stays}
 use Rattle.closures.proofs.AreaLaws.{kept-same, kept-then}
-use Rattle.closures.specs.Areas.{slot, Kept, Prepared, Added}
+use Rattle.closures.specs.Areas.{closuresAt, masksAt, slotCount, slotsEnd, slot, Kept, Prepared, Added}
 use Rattle.closures.specs.Sets.{Goes, Alike, Afters}
 use Rattle.grammar.specs.Card.{terminals, nonterminals}
 use Rattle.items.proofs.AreaLaws.{not-same}
 use Rattle.items.proofs.ItemLaws.{Words}
-use Rattle.items.specs.Item.{item, Next}
+use Rattle.items.specs.Item.{setSize, itemLimit, item, Next}
 use Rattle.sets.proofs.HasLaws.{lt-or-ge}
 use Rattle.sets.proofs.ListLaws.{each-same}
 use Rattle.sets.specs.Lists.{each}
@@ -63,50 +63,50 @@ cells-set t at x p b =
 -- no state from p up to q has v as word k
 pub record Passed (z : List ℕ) (p k v q : ℕ) : Type 0 where
   pub least : p ≤ q
-  pub gap : (j : ℕ) → p ≤ j → j < q → getD z (j * 11 + k) 0 ≡ v → ⊥
+  pub gap : (j : ℕ) → p ≤ j → j < q → getD z (j * setSize + k) 0 ≡ v → ⊥
 
 pub passed-start : (z : List ℕ) (p k v : ℕ) → Passed z p k v p
 passed-start z p k v = record { least = le-refl p; gap = λ j h g. absurd (let y : ⊥ = omega arith in y) }
 
-pub passed-more : (z : List ℕ) (p k v q i m : ℕ) → Passed z p k v q → (getD z i 0 ≡ v → ⊥) → i ≡ q * 11 + k → m ≡ q + 1 → Passed z p k v m
+pub passed-more : (z : List ℕ) (p k v q i m : ℕ) → Passed z p k v q → (getD z i 0 ≡ v → ⊥) → i ≡ q * setSize + k → m ≡ q + 1 → Passed z p k v m
 passed-more z p k v q i m s n e f =
     let l : p ≤ q = s .least in
     record {
       least = omega arith;
-      gap = λ j h g. ⊎-elim (λ (d : j < q). s .gap j h d) (λ (d : q ≤ j). let y : j * 11 + k ≡ i = omega arith in λ u. n (ap (λ (x : ℕ). getD z x 0) (sym y) ∙ u)) (lt-or-ge j q);
+      gap = λ j h g. ⊎-elim (λ (d : j < q). s .gap j h d) (λ (d : q ≤ j). let y : j * setSize + k ≡ i = omega arith in λ u. n (ap (λ (x : ℕ). getD z x 0) (sym y) ∙ u)) (lt-or-ge j q);
     }
 
 -- up to four of them, one after another
-module _ (z : List ℕ) (p k v q m : ℕ) (s : Passed z p k v q) (n₀ : getD z (q * 11 + k) 0 ≡ v → ⊥) where
+module _ (z : List ℕ) (p k v q m : ℕ) (s : Passed z p k v q) (n₀ : getD z (q * setSize + k) 0 ≡ v → ⊥) where
   pub passed-one : m ≡ q + 1 → Passed z p k v m
-  passed-one e = passed-more z p k v q (q * 11 + k) m s n₀ refl e
+  passed-one e = passed-more z p k v q (q * setSize + k) m s n₀ refl e
 
   one : Passed z p k v (q + 1)
-  one = passed-more z p k v q (q * 11 + k) (q + 1) s n₀ refl refl
+  one = passed-more z p k v q (q * setSize + k) (q + 1) s n₀ refl refl
 
-  module _ (n₁ : getD z (q * 11 + k + 11) 0 ≡ v → ⊥) where
+  module _ (n₁ : getD z (q * setSize + k + setSize) 0 ≡ v → ⊥) where
     two : Passed z p k v (q + 2)
-    two = passed-more z p k v (q + 1) (q * 11 + k + 11) (q + 2) one n₁ (omega arith) (omega arith)
+    two = passed-more z p k v (q + 1) (q * setSize + k + setSize) (q + 2) one n₁ (omega arith) (omega arith)
 
     pub passed-two : m ≡ q + 2 → Passed z p k v m
     passed-two e = rw e two
 
-    module _ (n₂ : getD z (q * 11 + k + 22) 0 ≡ v → ⊥) where
+    module _ (n₂ : getD z (q * setSize + k + 2 * setSize) 0 ≡ v → ⊥) where
       three : Passed z p k v (q + 3)
-      three = passed-more z p k v (q + 2) (q * 11 + k + 22) (q + 3) two n₂ (omega arith) (omega arith)
+      three = passed-more z p k v (q + 2) (q * setSize + k + 2 * setSize) (q + 3) two n₂ (omega arith) (omega arith)
 
       pub passed-three : m ≡ q + 3 → Passed z p k v m
       passed-three e = rw e three
 
-      pub passed-four : (getD z (q * 11 + k + 33) 0 ≡ v → ⊥) → m ≡ q + 4 → Passed z p k v m
-      passed-four n₃ e = passed-more z p k v (q + 3) (q * 11 + k + 33) m three n₃ (omega arith) (omega arith)
+      pub passed-four : (getD z (q * setSize + k + 3 * setSize) 0 ≡ v → ⊥) → m ≡ q + 4 → Passed z p k v m
+      passed-four n₃ e = passed-more z p k v (q + 3) (q * setSize + k + 3 * setSize) m three n₃ (omega arith) (omega arith)
 
 pub candidate-of : (z : List ℕ) (n p k v q : ℕ) → Passed z p k v q → q ≤ n → Candidate z n p k v q
 candidate-of z n p k v q s h = record { most = h; least = s .least; gap = s .gap }
 
 -- one with another word is another set
-pub other-word : (z s : List ℕ) (q k : ℕ) → q * 11 + 11 ≤ length z → length s ≡ 11 → ((j : ℕ) → getD z (q * 11 + j) 0 < 2 ^ 64) → Words s → k < 11 → (getD z (q * 11 + k) 0 ≡ getD s k 0 → ⊥) → Alike (slot z q) s → ⊥
-other-word z s q k room l f g h n a = false≢true (not-same z (q * 11) s room l f g k h n .items .so a)
+pub other-word : (z s : List ℕ) (q k : ℕ) → q * setSize + setSize ≤ length z → length s ≡ setSize → ((j : ℕ) → getD z (q * setSize + j) 0 < 2 ^ 64) → Words s → k < setSize → (getD z (q * setSize + k) 0 ≡ getD s k 0 → ⊥) → Alike (slot z q) s → ⊥
+other-word z s q k room l f g h n a = false≢true (not-same z (q * setSize) s room l f g k h n .items .so a)
 
 -- ---- cells that are 0
 
@@ -134,7 +134,7 @@ zeros-more t₀ at x k t p b =
       long = simp length-set (p .long);
     }
 
-pub skipped : (t₀ : List ℕ) (at x end : ℕ) (a t : List ℕ) (y m : ℕ) → end ≤ 704 → Next a x m → y ≤ m → y ≤ end → (y < end → y ≡ m) → Zeros t₀ at x y t → Skipped t₀ at x end a t y
+pub skipped : (t₀ : List ℕ) (at x end : ℕ) (a t : List ℕ) (y m : ℕ) → end ≤ itemLimit → Next a x m → y ≤ m → y ≤ end → (y < end → y ≡ m) → Zeros t₀ at x y t → Skipped t₀ at x end a t y
 skipped t₀ at x end a t y m b q l h e p = record {
   least = p .least;
   most = h;
@@ -150,15 +150,15 @@ skipped t₀ at x end a t y m b q l h e p = record {
 pub prepared-kept : (c z y s : List ℕ) (n : ℕ) → terminals c + nonterminals c ≤ 124 → nonterminals c ≤ 60 → n < 256 → Added z n s y → length y ≡ length z → Prepared c z → Prepared c y
 prepared-kept c z y s n w b h ad l p = record {
   closures = record {
-    starts = λ j q g. rw (ad .high (256 + j) (omega arith) (fits (256 + j) (omega arith))) (p .closures .starts j q g);
-    all = λ j i q g. rw (ad .high (256 + j) (omega arith) (fits (256 + j) (omega arith))) (p .closures .all j i q g);
-    from = λ j k g. rw (ad .high (256 + j) (omega arith) (fits (256 + j) (omega arith))) (p .closures .from j k g);
+    starts = λ j q g. rw (ad .high (closuresAt + j) (omega arith) (fits (closuresAt + j) (omega arith))) (p .closures .starts j q g);
+    all = λ j i q g. rw (ad .high (closuresAt + j) (omega arith) (fits (closuresAt + j) (omega arith))) (p .closures .all j i q g);
+    from = λ j k g. rw (ad .high (closuresAt + j) (omega arith) (fits (closuresAt + j) (omega arith))) (p .closures .from j k g);
   };
-  masks = λ x i g. rw (ad .high (316 + x) (omega arith) (fits (316 + x) (omega arith))) (p .masks x i g);
+  masks = λ x i g. rw (ad .high (masksAt + x) (omega arith) (fits (masksAt + x) (omega arith))) (p .masks x i g);
   room = rw l (p .room);
 }
   where
-    fits : (q : ℕ) → q < 440 → q * 11 + 11 ≤ length z
+    fits : (q : ℕ) → q < slotCount → q * setSize + setSize ≤ length z
     fits q g = omega (arith, p .room)
 
 goes-to : (c s r u : List ℕ) (x : ℕ) → r ≡ u → Goes c s x u → Goes c s x r
@@ -187,7 +187,7 @@ module _ (c s z₀ : List ℕ) (n₀ : ℕ) (t₀ : List ℕ) (at : ℕ) where
         given = Given.known lt Given.done;
         low = λ k h. refl;
         high = kept-same t₀ (at + 1);
-        behind = kept-same z₀ 4840;
+        behind = kept-same z₀ slotsEnd;
         long = refl;
         wide = refl;
       }
@@ -247,7 +247,7 @@ module _ (c s z₀ : List ℕ) (n₀ : ℕ) (t₀ : List ℕ) (at : ℕ) where
   }
 
   -- the cells from x on up to the first symbol after a dot are 0
-  pub row-skip : (z : List ℕ) (n : ℕ) (t u a : List ℕ) (x end y : ℕ) → Row c s z₀ n₀ t₀ at z n t x → 0 < x → Afters c s 704 a → Skipped t at x end a u y → length u ≡ length t → Row c s z₀ n₀ t₀ at z n u y
+  pub row-skip : (z : List ℕ) (n : ℕ) (t u a : List ℕ) (x end y : ℕ) → Row c s z₀ n₀ t₀ at z n t x → 0 < x → Afters c s itemLimit a → Skipped t at x end a u y → length u ≡ length t → Row c s z₀ n₀ t₀ at z n u y
   row-skip z n t u a x end y r px f k l = record {
     some = r .some;
     most = r .most;

@@ -10,17 +10,17 @@ use lib.ListN.{length, getD, set, length-set}
 use lib.Seq.{getD-set-other}
 use borrow.Author.Tests.{lt-ltb, le-ltb}
 use Rattle.closures.proofs.AreaLaws.{kept-same, kept-then}
-use Rattle.closures.specs.Areas.{slot, Kept, Prepared}
+use Rattle.closures.specs.Areas.{slotsEnd, slot, Kept, Prepared}
 use Rattle.closures.specs.Numbers.{firstOf}
 use Rattle.closures.specs.Sets.{Closed, Start}
 use Rattle.grammar.proofs.CardLaws.{WellFormed}
 use Rattle.grammar.specs.Card.{terminals, nonterminals, productions, grammarOf}
-use Rattle.items.specs.Item.{Put, Empty}
+use Rattle.items.specs.Item.{itemLimit, Put, Empty}
 use Rattle.sets.proofs.HasLaws.{lt-or-ge}
 use Rattle.sets.proofs.ListLaws.{each-same}
 use Rattle.states.proofs.RowLaws.{cell-kept}
-use Rattle.tables.specs.Layout.{rowOf}
-use Rattle.tables.proofs.RowLaws.{row-next, row-mono, row-fits}
+use Rattle.areas.specs.Areas.{tableSize, rowOf}
+use Rattle.areas.proofs.RowLaws.{row-next, row-mono, row-fits}
 use Rattle.states.specs.States.{transition, Row, Crowd, Rowed, whole, stopped, Table, Stated, finished, beyond, Built}
 use Rattle.lr.specs.States.{Taken, rowOf as cellsOf}
 
@@ -54,7 +54,7 @@ table-start c z t st pr = record {
   order = Taken.none;
   low = λ k h. refl;
   high = kept-same t (rowOf c 0);
-  behind = kept-same z 4840;
+  behind = kept-same z slotsEnd;
   long = refl;
   wide = refl;
 }
@@ -122,7 +122,7 @@ rowed-stopped c s z₀ n₀ t₀ at z t _ (stopped x) h = x
 -- ---- the whole
 
 -- the same from an area that was the same behind the slots
-table-from : (c z₀ z₁ t₀ z : List ℕ) (n : ℕ) (t : List ℕ) (q : ℕ) → Kept z₀ 4840 z₁ → length z₁ ≡ length z₀ → Table c z₁ t₀ z n t q → Table c z₀ t₀ z n t q
+table-from : (c z₀ z₁ t₀ z : List ℕ) (n : ℕ) (t : List ℕ) (q : ℕ) → Kept z₀ slotsEnd z₁ → length z₁ ≡ length z₀ → Table c z₁ t₀ z n t q → Table c z₀ t₀ z n t q
 table-from c z₀ z₁ t₀ z n t q k e T = record {
   some = T .some;
   most = T .most;
@@ -134,23 +134,23 @@ table-from c z₀ z₁ t₀ z n t q k e T = record {
   order = T .order;
   low = T .low;
   high = T .high;
-  behind = kept-then k (T .behind) (le-refl 4840);
+  behind = kept-then k (T .behind) (le-refl slotsEnd);
   long = T .long;
   wide = T .wide ∙ e;
 }
 
-stated-from : (c z₀ z₁ t₀ z t : List ℕ) (r : ℕ) → Kept z₀ 4840 z₁ → length z₁ ≡ length z₀ → Stated c z₁ t₀ z t r → Stated c z₀ t₀ z t r
+stated-from : (c z₀ z₁ t₀ z t : List ℕ) (r : ℕ) → Kept z₀ slotsEnd z₁ → length z₁ ≡ length z₀ → Stated c z₁ t₀ z t r → Stated c z₀ t₀ z t r
 stated-from c z₀ z₁ t₀ z t _ k e (finished n T) = finished n (table-from c z₀ z₁ t₀ z n t n k e T)
 stated-from c z₀ z₁ t₀ z t _ k e (beyond z₂ n t₁ q T h x) = beyond z₂ n t₁ q (table-from c z₀ z₁ t₀ z₂ n t₁ q k e T) h x
 
-sets-kept : (c z₀ t₀ z t : List ℕ) (r : ℕ) → Stated c z₀ t₀ z t r → Kept z₀ 4840 z
+sets-kept : (c z₀ t₀ z t : List ℕ) (r : ℕ) → Stated c z₀ t₀ z t r → Kept z₀ slotsEnd z
 sets-kept c z₀ t₀ z t _ (finished n T) = T .behind
-sets-kept c z₀ t₀ z t _ (beyond z₁ n t₁ q T h x) = kept-then (T .behind) (x .row .behind) (le-refl 4840)
+sets-kept c z₀ t₀ z t _ (beyond z₁ n t₁ q T h x) = kept-then (T .behind) (x .row .behind) (le-refl slotsEnd)
 
-table-kept : (c z₀ t₀ z t : List ℕ) (r : ℕ) → WellFormed c → Stated c z₀ t₀ z t r → Kept t₀ 32004 t
-table-kept c z₀ t₀ z t _ f (finished n T) = kept-then (kept-same t₀ 32004) (T .high) (end n (T .some) (T .most))
+table-kept : (c z₀ t₀ z t : List ℕ) (r : ℕ) → WellFormed c → Stated c z₀ t₀ z t r → Kept t₀ tableSize t
+table-kept c z₀ t₀ z t _ f (finished n T) = kept-then (kept-same t₀ tableSize) (T .high) (end n (T .some) (T .most))
   where
-    end : (n : ℕ) → 0 < n → n ≤ 256 → rowOf c n ≤ 32004
+    end : (n : ℕ) → 0 < n → n ≤ 256 → rowOf c n ≤ tableSize
     end zero p h = absurd (not-suc-le-zero p)
     end (suc n) p h = let l = row-fits c f n h in rw (← add-one n, row-next c n) l
 table-kept c z₀ t₀ z t _ f (beyond z₁ n t₁ q T h x) =
@@ -160,7 +160,7 @@ table-kept c z₀ t₀ z t _ f (beyond z₁ n t₁ q T h x) =
           x .row .high .kept k (omega (arith, x .below)) ∙ getD-set-other t₁ (rowOf c q) k 0 0 (λ e. omega (arith, x .below)) ∙ T .high .kept k (omega (arith, x .below));
     }
 
-pub built : (c t₀ z₀ z₁ w₀ t z w : List ℕ) (r : ℕ) → WellFormed c → Kept z₀ 4840 z₁ → length z₁ ≡ length z₀ → Stated c z₁ t₀ z t r → Kept w₀ 704 w → Built c t₀ z₀ w₀ t z w r
+pub built : (c t₀ z₀ z₁ w₀ t z w : List ℕ) (r : ℕ) → WellFormed c → Kept z₀ slotsEnd z₁ → length z₁ ≡ length z₀ → Stated c z₁ t₀ z t r → Kept w₀ itemLimit w → Built c t₀ z₀ w₀ t z w r
 built c t₀ z₀ z₁ w₀ t z w r f k e s kw =
     let u = stated-from c z₀ z₁ t₀ z t r k e s in
     record { stated = u; table-kept = table-kept c z₀ t₀ z t r f u; sets-kept = sets-kept c z₀ t₀ z t r u; words-kept = kw }

@@ -6,13 +6,13 @@ use Prim.Native.Nat.{ℕ, _+_, _*_, _≤_, _<_}
 use lib.ListN.{getD}
 use Rattle.closures.specs.Areas.{slot, Kept, Added}
 use Rattle.closures.specs.Sets.{Goes, Alike}
-use Rattle.items.specs.Item.{item}
+use Rattle.items.specs.Item.{setSize, item}
 
 -- no state from p on and before r, which is at most n, has v as its word k: r is the next one worth a whole comparison, or n
 pub record Candidate (z : List ℕ) (n p k v r : ℕ) : Type 0 where
   pub most : r ≤ n
   pub least : p ≤ r
-  pub gap : (q : ℕ) → p ≤ q → q < r → getD z (q * 11 + k) 0 ≡ v → ⊥
+  pub gap : (q : ℕ) → p ≤ q → q < r → getD z (q * setSize + k) 0 ≡ v → ⊥
 
 -- r is the first of the n states that is s, or n
 pub record Found (z : List ℕ) (n : ℕ) (s : List ℕ) (r : ℕ) : Type 0 where

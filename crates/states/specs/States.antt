@@ -6,12 +6,13 @@ use mathlib.Core.Path.{_≡_}
 use Prim.Native.Nat.{ℕ, _+_, _≤_, _<_}
 use lib.Dec.{ltb}
 use lib.ListN.{length, getD, set}
-use Rattle.closures.specs.Areas.{slot, Kept, Prepared}
+use Rattle.closures.specs.Areas.{slotsEnd, slot, Kept, Prepared}
 use Rattle.closures.specs.Sets.{Stays, Goes, Start, Alike}
 use Rattle.grammar.specs.Card.{terminals, nonterminals, grammarOf}
 use Rattle.sets.specs.Lists.{each}
-use Rattle.tables.specs.Layout.{rowOf}
+use Rattle.areas.specs.Areas.{tableSize, rowOf}
 use Rattle.lr.specs.States.{Given, Taken, rowOf as cellsOf}
+use Rattle.items.specs.Item.{itemLimit}
 
 -- the transition of state q on symbol x in the table t, 0 for none
 unfoldable pub transition : List ℕ → List ℕ → ℕ → ℕ → ℕ
@@ -39,7 +40,7 @@ pub record Row (c s z₀ : List ℕ) (n₀ : ℕ) (t₀ : List ℕ) (at : ℕ) (
   pub given : Given n₀ (each x (λ y. getD t (at + y) 0 ∷ [])) n
   pub low : (k : ℕ) → k < at → getD t k 0 ≡ getD t₀ k 0
   pub high : Kept t₀ (at + x) t
-  pub behind : Kept z₀ 4840 z
+  pub behind : Kept z₀ slotsEnd z
   pub long : length t ≡ length t₀
   pub wide : length z ≡ length z₀
 
@@ -70,7 +71,7 @@ pub record Table (c z₀ t₀ z : List ℕ) (n : ℕ) (t : List ℕ) (q : ℕ) :
   pub order : Taken (cellsOf (grammarOf c) (transition c t)) q n
   pub low : (k : ℕ) → k < rowOf c 0 → getD t k 0 ≡ getD t₀ k 0
   pub high : Kept t₀ (rowOf c q) t
-  pub behind : Kept z₀ 4840 z
+  pub behind : Kept z₀ slotsEnd z
   pub long : length t ≡ length t₀
   pub wide : length z ≡ length z₀
 
@@ -82,6 +83,6 @@ pub data Stated (c z₀ t₀ z t : List ℕ) : ℕ → Type 0 where
 -- what `states` leaves: the states, and every place behind those that it uses as it was
 pub record Built (c t₀ z₀ w₀ t z w : List ℕ) (r : ℕ) : Type 0 where
   pub stated : Stated c z₀ t₀ z t r
-  pub table-kept : Kept t₀ 32004 t
-  pub sets-kept : Kept z₀ 4840 z
-  pub words-kept : Kept w₀ 704 w
+  pub table-kept : Kept t₀ tableSize t
+  pub sets-kept : Kept z₀ slotsEnd z
+  pub words-kept : Kept w₀ itemLimit w

@@ -6,37 +6,38 @@ ghost use Prim.Native.Nat.{ℕ, _+_, _*_, _≤_, _<_, _^_};
 ghost use lib.Dec.{eqb};
 ghost use lib.ListN.{length, getD};
 ghost use Rattle.grammar.specs.Card.{terminals, nonterminals, formFault};
+ghost use Rattle.areas.specs.Areas.{tableSize, wordsSize};
 ghost use Rattle.closures.specs.Numbers.{afterOf};
 ghost use Rattle.closures.specs.Sets.{Start};
 ghost use Rattle.closures.specs.Areas.{slot, Filled, Prepared};
-ghost use Rattle.items.specs.Item.{item};
+ghost use Rattle.items.specs.Item.{setSize, itemLimit, item};
 ghost use Rattle.states.specs.Places.{Candidate, Found, Placed, Target, Skipped};
 ghost use Rattle.states.specs.States.{Apart, Rowed, Stated, Built};
 
 // The first state from p on and below n whose word k is v, or n.
 fn candidate(z: &[u64], n: usize, p: usize, k: usize, v: u64) -> usize
-    requires { ⌜ (p ≤ n) × (n ≤ 256) × (k < 11) × (n * 11 ≤ length (now z)) ⌝ }
+    requires { ⌜ (p ≤ n) × (n ≤ 256) × (k < setSize) × (n * setSize ≤ length (now z)) ⌝ }
     ensures { λ r. ⌜ Candidate (now (z .entry)) n p k v r ⌝ }
 {
     let mut q = p;
     while q + 3 < n {
-        let at = q * 11 + k;
+        let at = q * items::SIZE + k;
         if z[at] == v {
             return q;
         }
-        if z[at + 11] == v {
+        if z[at + items::SIZE] == v {
             return q + 1;
         }
-        if z[at + 22] == v {
+        if z[at + 2 * items::SIZE] == v {
             return q + 2;
         }
-        if z[at + 33] == v {
+        if z[at + 3 * items::SIZE] == v {
             return q + 3;
         }
         q += 4;
     }
     while q < n {
-        if z[q * 11 + k] == v {
+        if z[q * items::SIZE + k] == v {
             return q;
         }
         q += 1;
@@ -46,13 +47,13 @@ fn candidate(z: &[u64], n: usize, p: usize, k: usize, v: u64) -> usize
 
 // The first of the n states that is s, or n. Word k is compared first, and the others only where it is the same.
 fn find(z: &[u64], n: usize, s: [u64; 11], k: usize) -> usize
-    requires { ⌜ (n ≤ 256) × (k < 11) × (n * 11 ≤ length (now z)) ⌝ }
+    requires { ⌜ (n ≤ 256) × (k < setSize) × (n * setSize ≤ length (now z)) ⌝ }
     ensures { λ v. ⌜ Found (now (z .entry)) n s v ⌝ }
 {
     let v = s[k];
     let mut q = candidate(z, n, 0, k, v);
     while q < n {
-        if items::is_at(s, z, q * 11) {
+        if items::is_at(s, z, q * items::SIZE) {
             return q;
         }
         q = candidate(z, n, q + 1, k, v);
@@ -62,7 +63,7 @@ fn find(z: &[u64], n: usize, s: [u64; 11], k: usize) -> usize
 
 // The number of the state s among n: found, or the next one, and then s is put down; 256 where there is no room for it.
 fn place(z: &mut [u64], n: usize, s: [u64; 11], k: usize) -> usize
-    requires { ⌜ (n ≤ 256) × (k < 11) × (8192 ≤ length (now z)) ⌝ }
+    requires { ⌜ (n ≤ 256) × (k < setSize) × (wordsSize ≤ length (now z)) ⌝ }
     ensures { λ v. ⌜ Placed (now (z .entry)) n s (now (z .exit)) v ⌝ }
 {
     let q = find(z, n, s, k);
@@ -70,17 +71,17 @@ fn place(z: &mut [u64], n: usize, s: [u64; 11], k: usize) -> usize
         return q;
     }
     if n < 256 {
-        items::store(z, n * 11, s);
+        items::store(z, n * items::SIZE, s);
     }
     n
 }
 
 // The state to which s has a transition on x, which stands after a dot of s; 256 where there is no room for it.
 fn target(c: &[u16], z: &mut [u64], w: &[u32], n: usize, s: [u64; 11], x: usize) -> usize
-    requires { ⌜ (formFault (now c) ≡ 0) × (704 ≤ length (now w)) × Filled (now c) (now w) 704 × Prepared (now c) (now z) × (n ≤ 256) × (0 < x) × (x < terminals (now c) + nonterminals (now c)) × ((i : ℕ) × (i < 704) × (item s i ≡ true) × (afterOf (now c) i ≡ x)) ⌝ }
+    requires { ⌜ (formFault (now c) ≡ 0) × (itemLimit ≤ length (now w)) × Filled (now c) (now w) itemLimit × Prepared (now c) (now z) × (n ≤ 256) × (0 < x) × (x < terminals (now c) + nonterminals (now c)) × ((i : ℕ) × (i < itemLimit) × (item s i ≡ true) × (afterOf (now c) i ≡ x)) ⌝ }
     ensures { λ v. ⌜ Target (now (c .entry)) s x (now (z .entry)) n (now (z .exit)) v ⌝ }
 {
-    let core = items::advance(s, items::load(z, (316 + x) * 11));
+    let core = items::advance(s, items::load(z, (closures::MASKS + x) * items::SIZE));
     let d = closures::closure(c, w, z, core);
     place(z, n, d, items::next(core, 0) / 64)
 }
@@ -102,7 +103,7 @@ fn least(m: usize, n: usize) -> usize
 
 // Zeros in the cells of a row from symbol x on, up to the first symbol that is in a or to the end: which it is, is the answer.
 fn skip(t: &mut [u16], at: usize, x: usize, end: usize, a: [u64; 11]) -> usize
-    requires { ⌜ (x ≤ end) × (end ≤ 704) × (at + end ≤ 32004) × (32004 ≤ length (now t)) ⌝ }
+    requires { ⌜ (x ≤ end) × (end ≤ itemLimit) × (at + end ≤ tableSize) × (tableSize ≤ length (now t)) ⌝ }
     ensures { λ v. ⌜ Skipped (now (t .entry)) at x end a (now (t .exit)) v ⌝ }
 {
     let y = least(items::next(a, x), end);
@@ -125,7 +126,7 @@ fn row(
     s: [u64; 11],
     m: usize,
 ) -> usize
-    requires { ⌜ (formFault (now c) ≡ 0) × (704 ≤ length (now w)) × Filled (now c) (now w) 704 × Prepared (now c) (now z) × (0 < m) × (m ≤ 256) × Apart (now z) m × (at + (terminals (now c) + nonterminals (now c)) ≤ 32004) × (32004 ≤ length (now t)) × (getD (now t) at 0 ≡ 0) ⌝ }
+    requires { ⌜ (formFault (now c) ≡ 0) × (itemLimit ≤ length (now w)) × Filled (now c) (now w) itemLimit × Prepared (now c) (now z) × (0 < m) × (m ≤ 256) × Apart (now z) m × (at + (terminals (now c) + nonterminals (now c)) ≤ tableSize) × (tableSize ≤ length (now t)) × (getD (now t) at 0 ≡ 0) ⌝ }
     ensures { λ v. ⌜ Rowed (now (c .entry)) s (now (z .entry)) m (now (t .entry)) at (now (z .exit)) (now (t .exit)) v ⌝ }
 {
     let end = card::wide(card::terminals(c)) + card::wide(card::nonterminals(c));
@@ -150,15 +151,15 @@ fn row(
 
 // The rows of all states in number order, from the first, which stands in its slot.
 fn rows(c: &[u16], t: &mut [u16], z: &mut [u64], w: &[u32]) -> usize
-    requires { ⌜ (formFault (now c) ≡ 0) × (704 ≤ length (now w)) × Filled (now c) (now w) 704 × Prepared (now c) (now z) × (32004 ≤ length (now t)) × Start (now c) (slot (now z) 0) ⌝ }
+    requires { ⌜ (formFault (now c) ≡ 0) × (itemLimit ≤ length (now w)) × Filled (now c) (now w) itemLimit × Prepared (now c) (now z) × (tableSize ≤ length (now t)) × Start (now c) (slot (now z) 0) ⌝ }
     ensures { λ v. ⌜ Stated (now (c .entry)) (now (z .entry)) (now (t .entry)) (now (z .exit)) (now (t .exit)) v ⌝ }
 {
     let width = card::wide(card::terminals(c)) + card::wide(card::nonterminals(c));
     let mut n: usize = 1;
-    let mut at = 4 + 2 * card::wide(card::productions(c));
+    let mut at = areas::row(c, 0);
     let mut q: usize = 0;
     while q < n {
-        let s = items::load(z, q * 11);
+        let s = items::load(z, q * items::SIZE);
         t[at] = 0;
         n = row(c, t, z, w, at, s, n);
         if n == 257 {
@@ -172,7 +173,7 @@ fn rows(c: &[u16], t: &mut [u16], z: &mut [u64], w: &[u32]) -> usize
 
 // The states of a card: their number, their item sets in z and their transitions in the rows of t; 257 where they are more than 256.
 pub fn states(c: &[u16], t: &mut [u16], z: &mut [u64], w: &mut [u32]) -> usize
-    requires { ⌜ (formFault (now c) ≡ 0) × (32004 ≤ length (now t)) × (8192 ≤ length (now z)) × (704 ≤ length (now w)) ⌝ }
+    requires { ⌜ (formFault (now c) ≡ 0) × (tableSize ≤ length (now t)) × (wordsSize ≤ length (now z)) × (itemLimit ≤ length (now w)) ⌝ }
     ensures { λ v. ⌜ Built (now (c .entry)) (now (t .entry)) (now (z .entry)) (now (w .entry)) (now (t .exit)) (now (z .exit)) (now (w .exit)) v ⌝ }
 {
     closures::fill(c, w);

@@ -8,8 +8,8 @@ use lib.ListN.{length, getD, set, length-set}
 use lib.Seq.{getD-set-same, getD-set-other}
 use Rattle.sets.proofs.HasLaws.{lt-or-ge}
 use Rattle.tables.specs.Layout.{states, width, leftOf, lengthOf, cellOf}
-use Rattle.machine.specs.Machine.{popped, topOf, reducedTo, reduced}
-use Rattle.machine.specs.Machine as machine
+use Rattle.machine.specs.ComputedRun.{popped, topOf, reducedTo, reduced}
+use Rattle.machine.specs.ComputedRun as machine
 use Rattle.tables.specs.declared.Shape.{Shape}
 use Rattle.tables.proofs.Places.{cell-in}
 use Rattle.machine.proofs.Checked.{left-passed, goto-passed, cell-within, left-within}
@@ -17,7 +17,7 @@ use Rattle.steps.specs.State.{machineOf, Held, Stepped, Reducible}
 use Rattle.steps.specs.declared.Next.{Next}
 use Rattle.steps.specs.declared.Next.the-variants.{Ended, Moved}
 use Rattle.steps.specs.declared.Stop.the-variants.{StackFull, Broken}
-use Rattle.steps.proofs.Laws.{reducedTo-none, reducedTo-full, reducedTo-goes, reduced-to}
+use Rattle.machine.proofs.RunLaws.{reducedTo-none, reducedTo-full, reducedTo-goes, reduced-to}
 use Rattle.steps.specs.declared.State.{State}
 
 pub popped-length : (s : List ℕ) (d n : ℕ) → length (popped s d n) ≡ length s

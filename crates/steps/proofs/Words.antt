@@ -1,48 +1,17 @@
--- Laws of the expected set: its word, and how many bits are set in it.
-use mathlib.Core.Path.{_≡_, refl, sym, ap, ap₂, _∙_}
+-- The expected set as the code gathers it from a row of cells.
+use mathlib.Core.Path.{_≡_, refl, ap₂}
 use mathlib.Core.List.{List}
 use Prim.Native.Nat.{ℕ, zero, suc, _+_, _*_, _^_, _<_}
-use native.Mathlib.Nat.{pow-suc, zero-mul, zero-add, one-mul}
 use native.Mathlib.Omega.{arith}
 use native.Mathlib.Numerals.{add-one}
 use lib.ListN.{getD, drop}
-use lib.Bits.{bitOr, or-shifted-r}
-use lib.Count.{ones, onesIn, ones-cat}
-use Rattle.tables.specs.Layout.{cellOf}
 use Rattle.tables.specs.Shape.{Shaped}
 use Rattle.tables.specs.declared.Shape.{Shape}
 use Rattle.tables.proofs.Places.{cell-in}
-use Rattle.machine.specs.Machine.{bitIf, expectedWord, expectedCount}
+use Rattle.machine.specs.ComputedRun.{bitIf, expectedWord}
+use Rattle.machine.proofs.Offers.{bit-lt}
 
-pub bit-none : (c k w : ℕ) → c ≡ 0 → w ≡ bitIf c * 2 ^ k + w
-bit-none c k w e = rw e (sym (ap (λ (x : ℕ). x + w) (zero-mul (2 ^ k)) ∙ zero-add w))
-
-pub bit-one : (c k w : ℕ) → (c ≡ 0 → ⊥) → w < 2 ^ k → bitOr w (2 ^ k) ≡ bitIf c * 2 ^ k + w
-bit-one zero k w e g = absurd (e refl)
-bit-one (suc c) k w e g = ap (bitOr w) (sym (one-mul (2 ^ k))) ∙ or-shifted-r 1 k w g
-
-bit-lt : (c k w : ℕ) → w < 2 ^ k → bitIf c * 2 ^ k + w < 2 ^ suc k
-bit-lt zero k w h = omega (arith, pow-suc 2 k)
-bit-lt (suc c) k w h = omega (arith, pow-suc 2 k)
-
-pub expectedWord-lt : (t : List ℕ) (q k : ℕ) → expectedWord t q k < 2 ^ k
-unfolding expectedWord
-expectedWord-lt t q zero = omega arith
-expectedWord-lt t q (suc k) = bit-lt (cellOf t q k) k (expectedWord t q k) (expectedWord-lt t q k)
-
-ones-bit : (c : ℕ) → ones (bitIf c) ≡ bitIf c
-unfolding ones onesIn
-ones-bit zero = refl
-ones-bit (suc c) = refl
-
-pub ones-expected : (t : List ℕ) (q k : ℕ) → ones (expectedWord t q k) ≡ expectedCount t q k
-unfolding expectedWord expectedCount ones onesIn
-ones-expected t q zero = refl
-ones-expected t q (suc k) =
-    ones-cat k (bitIf (cellOf t q k)) (expectedWord t q k) (expectedWord-lt t q k)
-    ∙ ap₂ _+_ (ones-bit (cellOf t q k)) (ones-expected t q k)
-
--- the same word from a row of cells that starts at place f
+-- the word of a row of cells that starts at place f
 unfoldable pub rowWord : List ℕ → ℕ → ℕ → ℕ
 rowWord cs f zero = 0
 rowWord cs f (suc k) = bitIf (getD cs (f + k) 0) * 2 ^ k + rowWord cs f k

@@ -4,7 +4,7 @@ use mathlib.Core.Path.{_≡_}
 use mathlib.Core.List.{List}
 use lib.ListN.{length, getD, drop}
 use Rattle.tables.specs.Layout.{productions}
-use Rattle.machine.specs.Machine as machine
+use Rattle.machine.specs.ComputedRun as machine
 use Rattle.tables.specs.Shape.{Shaped}
 use Rattle.tables.specs.declared.Shape.{Shape}
 use Rattle.machine.proofs.Checked.{Checked}

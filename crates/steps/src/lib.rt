@@ -6,7 +6,7 @@ ghost use Prim.Native.Nat.{ℕ, _+_, _*_, _-_, _<_, _≤_, _^_};
 ghost use lib.ListN.{getD, length, drop};
 ghost use Rattle.tables.specs.Layout.{terminals, productions, leftOf, lengthOf, cellOf};
 ghost use Rattle.tables.specs.Shape.{Shaped};
-ghost use Rattle.machine.specs.Machine.{popped, shifted, reducedTo, reduced, movedBy, expectedWord, bitIf};
+ghost use Rattle.machine.specs.ComputedRun.{popped, shifted, reducedTo, reduced, movedBy, expectedWord, bitIf};
 ghost use Rattle.tables.specs.declared.Shape.{Shape};
 ghost use Rattle.steps.specs.State.{machineOf, Held, Stepped, Reducible, Steppable};
 

@@ -12,7 +12,7 @@ use borrow.Author.Tests.{lt-ltb, le-ltb, le-leb, lt-leb, eq-eqb, ne-eqb}
 use Rattle.sets.specs.Tests.{allBelow}
 use Rattle.sets.proofs.HasLaws.{lt-or-ge}
 use Rattle.sets.proofs.TestLaws.{all-split, all-ext}
-use Rattle.tables.specs.Layout.{states, terminals, productions, width, cellOf, sizeOf}
+use Rattle.tables.specs.Layout.{states, terminals, productions, width, cellOf, sizeOf, lengthAt, rowAt}
 use Rattle.machine.specs.Checks.{terminalCellOk, cellOk, rowOk}
 use Rattle.tables.specs.declared.Shape.{Shape}
 use Rattle.tables.proofs.Places.{row-within}
@@ -68,7 +68,7 @@ module _ (t : List ℕ) (s : Sized t) where
   goto-cell x v h = rw (le-ltb x (terminals t) h)
 
 module _ {t : List ℕ} {z : Shape} (w : Whole t z) (q : ℕ) where
-  from-is : z .cells + q * z .width ≡ 4 + 2 * productions t + q * width t
+  from-is : z .cells + q * z .width ≡ rowAt (productions t) (width t) q
   from-is = rw (w .shaped .cells-at, w .shaped .width-is) refl
 
   at-cell : (k x i : ℕ) → k ≡ z .cells + q * z .width + x → getD t (k + i) 0 ≡ cellOf t q (x + i)
@@ -114,6 +114,6 @@ module _ {t : List ℕ} {z : Shape} (w : Whole t z) (q : ℕ) where
       let r = row-within (width t) q (states t) h in
       rw (w .shaped .cells-at, w .shaped .width-is) (omega arith)
 
-  pub length-fits : q < z .productions → 4 + productions t + q < length t
+  pub length-fits : q < z .productions → lengthAt (productions t) q < length t
   unfolding sizeOf
   length-fits h = let l = w .whole in omega (arith, w .shaped .productions-are)

@@ -7,7 +7,7 @@ ghost use Prim.Native.Nat.{ℕ, _+_, _<_, _≤_};
 ghost use lib.ListN.{length, getD};
 ghost use lib.Dec.{ltb};
 ghost use Rattle.sets.specs.Tests.{allBelow, between as betweenOf};
-ghost use Rattle.tables.specs.Layout.{states, terminals, productions};
+ghost use Rattle.tables.specs.Layout.{states, terminals, productions, lengthAt};
 ghost use Rattle.tables.specs.Shape.{Shaped};
 ghost use Rattle.machine.specs.Checks.{sizesOk, productionOk, productionsOk, rowOk, cellsOk, inputOk, refusalOf};
 ghost use Rattle.table_checks.specs.Verdict.{verdictNumber};
@@ -58,7 +58,7 @@ fn sizes_ok(t: &[u16], z: Shape) -> bool
 }
 
 fn production_ok(t: &[u16], z: Shape, r: usize) -> bool
-    requires { ⌜ (Shaped (now t) z) × (4 + productions (now t) + r < length (now t)) ⌝ }
+    requires { ⌜ (Shaped (now t) z) × (lengthAt (productions (now t)) r < length (now t)) ⌝ }
     ensures { λ x. ⌜ x ≡ productionOk (now (t .entry)) r ⌝ }
 {
     let left = tables::left(t, r) as usize;

@@ -8,31 +8,31 @@ use lib.Arith.{digits-lt}
 use native.Mathlib.Omega.{arith}
 use native.Mathlib.Nat.{mod-lt, div-lt-iff-lt-mul, div-add-mod', mul-one}
 use native.Mathlib.Decide.{decLt}
-use Rattle.tables.specs.Layout.{states, terminals, nonterminals, productions, width, leftOf, lengthOf, cellOf, sizeOf, build}
+use Rattle.tables.specs.Layout.{states, terminals, nonterminals, productions, width, leftAt, lengthAt, cellsAt, rowAt, leftOf, lengthOf, cellOf, sizeOf, build}
 use Rattle.sets.specs.Lists.{each}
 use Rattle.sets.proofs.ListLaws.{each-length, each-at}
 
-module _ (p w n : ℕ) (wide : 0 < w) (Q : ℕ → Type 0) (sizes : (i : ℕ) → i < 4 → Q i) (lefts : (r : ℕ) → r < p → Q (4 + r)) (lengths : (r : ℕ) → r < p → Q (4 + p + r))
-    (cells : (q x : ℕ) → q < n → x < w → Q (4 + 2 * p + q * w + x)) where
-  rows : (k : ℕ) → k < n * w → Q (4 + 2 * p + k)
+module _ (p w n : ℕ) (wide : 0 < w) (Q : ℕ → Type 0) (sizes : (i : ℕ) → i < 4 → Q i) (lefts : (r : ℕ) → r < p → Q (leftAt r)) (lengths : (r : ℕ) → r < p → Q (lengthAt p r))
+    (cells : (q x : ℕ) → q < n → x < w → Q (rowAt p w q + x)) where
+  rows : (k : ℕ) → k < n * w → Q (cellsAt p + k)
   rows k b =
-      let e : 4 + 2 * p + k / w * w + k % w ≡ 4 + 2 * p + k = let d = div-add-mod' k w in omega (arith, d) in
+      let e : rowAt p w (k / w) + k % w ≡ cellsAt p + k = let d = div-add-mod' k w in omega (arith, d) in
       subst Q e (cells (k / w) (k % w) (div-lt-iff-lt-mul wide .1 b) (mod-lt k wide))
 
-  all-places : (i : ℕ) → i < 4 + 2 * p + n * w → Q i
+  all-places : (i : ℕ) → i < rowAt p w n → Q i
   all-places i h = go₁ (decLt i 4)
     where
-      go₃ : 4 + p ≤ i → Dec (i < 4 + 2 * p) → Q i
-      go₃ b (yes d) = let e : 4 + p + (i - 4 - p) ≡ i = omega arith in subst Q e (lengths (i - 4 - p) (omega arith))
-      go₃ b (no d) = let e : 4 + 2 * p + (i - 4 - 2 * p) ≡ i = omega arith in subst Q e (rows (i - 4 - 2 * p) (omega arith))
+      go₃ : lengthAt p 0 ≤ i → Dec (i < cellsAt p) → Q i
+      go₃ b (yes d) = let e : lengthAt p (i - lengthAt p 0) ≡ i = omega arith in subst Q e (lengths (i - lengthAt p 0) (omega arith))
+      go₃ b (no d) = let e : cellsAt p + (i - cellsAt p) ≡ i = omega arith in subst Q e (rows (i - cellsAt p) (omega arith))
 
-      go₂ : 4 ≤ i → Dec (i < 4 + p) → Q i
-      go₂ a (yes b) = let e : 4 + (i - 4) ≡ i = omega arith in subst Q e (lefts (i - 4) (omega arith))
-      go₂ a (no b) = go₃ (omega arith) (decLt i (4 + 2 * p))
+      go₂ : leftAt 0 ≤ i → Dec (i < lengthAt p 0) → Q i
+      go₂ a (yes b) = let e : leftAt (i - leftAt 0) ≡ i = omega arith in subst Q e (lefts (i - leftAt 0) (omega arith))
+      go₂ a (no b) = go₃ (omega arith) (decLt i (cellsAt p))
 
       go₁ : Dec (i < 4) → Q i
       go₁ (yes a) = sizes i a
-      go₁ (no a) = go₂ (omega arith) (decLt i (4 + p))
+      go₁ (no a) = go₂ (omega arith) (decLt i (lengthAt p 0))
 
 by-size : (Q : ℕ → Type 0) → Q 0 → Q 1 → Q 2 → Q 3 → (i : ℕ) → i < 4 → Q i
 by-size Q a b c d zero h = a
@@ -102,7 +102,7 @@ module _ (q t n p : ℕ) (left length′ : ℕ → ℕ) (cell : ℕ → ℕ → 
   pub built-length : (r : ℕ) → r < p → lengthOf built r ≡ length′ r
   unfolding build lengthOf productions
   built-length r h =
-      let e : 4 + p + r ≡ 4 + (p + r) = omega arith in
+      let e : lengthAt p r ≡ 4 + (p + r) = omega arith in
       ap (λ (i : ℕ). getD (q ∷ t ∷ n ∷ p ∷ (lefts ++ (lengths ++ cells))) i 0) e
       ∙ skip4 q t n p (lefts ++ (lengths ++ cells)) (p + r)
       ∙ skip lefts (lengths ++ cells) p r (ones-length p left)
@@ -115,7 +115,7 @@ module _ (q t n p : ℕ) (left length′ : ℕ → ℕ) (cell : ℕ → ℕ → 
   pub built-cell : (s x : ℕ) → s < q → x < t + n → cellOf built s x ≡ cell s x
   unfolding build cellOf width terminals nonterminals productions
   built-cell s x hs hx =
-      let e : 4 + 2 * p + s * (t + n) + x ≡ 4 + (p + (p + (s * (t + n) + x))) = omega arith in
+      let e : rowAt p (t + n) s + x ≡ 4 + (p + (p + (s * (t + n) + x))) = omega arith in
       ap (λ (i : ℕ). getD (q ∷ t ∷ n ∷ p ∷ (lefts ++ (lengths ++ cells))) i 0) e
       ∙ skip4 q t n p (lefts ++ (lengths ++ cells)) (p + (p + (s * (t + n) + x)))
       ∙ skip lefts (lengths ++ cells) p (p + (s * (t + n) + x)) (ones-length p left)
@@ -166,14 +166,14 @@ module _ (l pad : List ℕ) (long : length l ≡ sizeOf l) where
 
   pub front-left : (r : ℕ) → r < productions l → leftOf (l ++ pad) r ≡ leftOf l r
   unfolding leftOf sizeOf
-  front-left r h = at-front (4 + r) (omega arith)
+  front-left r h = at-front (leftAt r) (omega arith)
 
   pub front-length : (r : ℕ) → r < productions l → lengthOf (l ++ pad) r ≡ lengthOf l r
   unfolding lengthOf sizeOf
-  front-length r h = rw front-productions (at-front (4 + productions l + r) (omega arith))
+  front-length r h = rw front-productions (at-front (lengthAt (productions l) r) (omega arith))
 
   pub front-cell : (q x : ℕ) → q < states l → x < width l → cellOf (l ++ pad) q x ≡ cellOf l q x
   unfolding cellOf sizeOf
   front-cell q x h k =
       let b : q * width l + x < states l * width l = digits-lt h k in
-      rw (front-productions, front-width) (at-front (4 + 2 * productions l + q * width l + x) (omega arith))
+      rw (front-productions, front-width) (at-front (rowAt (productions l) (width l) q + x) (omega arith))

@@ -1,4 +1,3 @@
 pub mod LayoutLaws
 pub mod Product
 pub mod Places
-pub mod RowLaws

@@ -1,10 +1,9 @@
 -- The layout of a parse table: the sizes Q, T, N, P; two arrays of P numbers, left sides and lengths; then Q rows of T + N cells.
--- Every place of a table is named here and nowhere else. A place past the end reads 0.
+-- Every place of a table is named here; crate tables has the places in code. A place past the end reads 0.
 use Prim.Native.Nat.{ℕ, _+_, _*_}
 use mathlib.Core.List.{List, [], _∷_, _++_}
 use lib.ListN.{getD}
 use Rattle.sets.specs.Lists.{each}
-use Rattle.grammar.specs.Card as card
 
 -- the sizes: Q states, T terminals (the paper's marks), N nonterminals (names), P productions (rules)
 unfoldable pub states : List ℕ → ℕ
@@ -23,17 +22,38 @@ productions t = getD t 3 0
 unfoldable pub width : List ℕ → ℕ
 width t = terminals t + nonterminals t
 
+-- the places of a table of p productions: the left side of production r, the length of its right side, the end of the header,
+-- which is the sizes and both arrays, and the first cell
+abbrev pub leftAt : ℕ → ℕ
+leftAt r = 4 + r
+
+abbrev pub lengthAt : ℕ → ℕ → ℕ
+lengthAt p r = 4 + p + r
+
+abbrev pub headerSize : ℕ → ℕ
+headerSize p = 4 + 2 * p
+
+abbrev pub cellsAt : ℕ → ℕ
+cellsAt p = headerSize p
+
 -- the left side of production r
 unfoldable pub leftOf : List ℕ → ℕ → ℕ
-leftOf t r = getD t (4 + r) 0
+leftOf t r = getD t (leftAt r) 0
 
 -- the length of the right side of production r
 unfoldable pub lengthOf : List ℕ → ℕ → ℕ
-lengthOf t r = getD t (4 + productions t + r) 0
+lengthOf t r = getD t (lengthAt (productions t) r) 0
+
+-- the values of a terminal's cell: "0 is wrong, 1 to Q−1 shifts to that state, 1,024+r reduces by rule r, 4,096 accepts"
+abbrev pub reduction : ℕ → ℕ
+reduction r = 1024 + r
+
+abbrev pub accept : ℕ
+accept = 4096
 
 -- where the row of state q begins in a table of p productions with rows of w cells, which is the size of such a table of q states
 abbrev pub rowAt : ℕ → ℕ → ℕ → ℕ
-rowAt p w q = 4 + 2 * p + q * w
+rowAt p w q = cellsAt p + q * w
 
 -- the cell of state q and symbol x
 unfoldable pub cellOf : List ℕ → ℕ → ℕ → ℕ
@@ -42,10 +62,6 @@ cellOf t q x = getD t (rowAt (productions t) (width t) q + x) 0
 -- how many numbers the sizes ask for
 unfoldable pub sizeOf : List ℕ → ℕ
 sizeOf t = rowAt (productions t) (width t) (states t)
-
--- where the row of state q begins in the table of the card c
-unfoldable pub rowOf : List ℕ → ℕ → ℕ
-rowOf c q = rowAt (card.productions c) (card.terminals c + card.nonterminals c) q
 
 -- the table with these sizes, left sides, lengths and cells
 unfoldable pub build : ℕ → ℕ → ℕ → ℕ → (ℕ → ℕ) → (ℕ → ℕ) → (ℕ → ℕ → ℕ) → List ℕ

@@ -2,8 +2,49 @@
 ghost use mathlib.Core.Path.{_≡_};
 ghost use Prim.Native.Nat.{_+_, _*_, _<_, _≤_, _^_};
 ghost use lib.ListN.{length, getD, drop};
-ghost use Rattle.tables.specs.Layout.{productions, leftOf, lengthOf, sizeOf};
+ghost use Rattle.tables.specs.Layout.{productions, leftAt, lengthAt, headerSize, cellsAt, leftOf, lengthOf, sizeOf};
 ghost use Rattle.tables.specs.Shape.{Shaped};
+
+// The places of the sizes: states, terminals, nonterminals, productions.
+pub const STATES: usize = 0;
+
+pub const TERMINALS: usize = 1;
+
+pub const NONTERMINALS: usize = 2;
+
+pub const PRODUCTIONS: usize = 3;
+
+// The place of the left side of production r.
+pub fn left_at(r: usize) -> usize
+    requires { ⌜ leftAt r < 2 ^ 64 ⌝ }
+    ensures { λ i. ⌜ i ≡ leftAt r ⌝ }
+{
+    4 + r
+}
+
+// The place of the length of production r, of p.
+pub fn length_at(p: usize, r: usize) -> usize
+    requires { ⌜ lengthAt p r < 2 ^ 64 ⌝ }
+    ensures { λ i. ⌜ i ≡ lengthAt p r ⌝ }
+{
+    4 + p + r
+}
+
+// How many numbers the sizes and both arrays of p productions are.
+pub fn header_size(p: usize) -> usize
+    requires { ⌜ headerSize p < 2 ^ 64 ⌝ }
+    ensures { λ i. ⌜ i ≡ headerSize p ⌝ }
+{
+    4 + 2 * p
+}
+
+// The place of the first cell.
+pub fn cells_at(p: usize) -> usize
+    requires { ⌜ cellsAt p < 2 ^ 64 ⌝ }
+    ensures { λ i. ⌜ i ≡ cellsAt p ⌝ }
+{
+    header_size(p)
+}
 
 // The sizes of a table, the cells of a row and the place of the first cell.
 pub struct Shape {
@@ -26,14 +67,14 @@ pub fn shape_of(t: &[u16]) -> Shape
     requires { ⌜ 4 ≤ length (now t) ⌝ }
     ensures { λ z. ⌜ Shaped (now (t .entry)) z ⌝ }
 {
-    let n = number(t, 1);
-    let p = number(t, 3);
+    let n = number(t, TERMINALS);
+    let p = number(t, PRODUCTIONS);
     Shape {
-        states: number(t, 0),
+        states: number(t, STATES),
         terminals: n,
         productions: p,
-        width: n + number(t, 2),
-        cells: 4 + 2 * p,
+        width: n + number(t, NONTERMINALS),
+        cells: cells_at(p),
     }
 }
 
@@ -47,18 +88,18 @@ pub fn size(t: &[u16], z: Shape) -> usize
 
 // The left side of production r.
 pub fn left(t: &[u16], r: usize) -> u16
-    requires { ⌜ 4 + r < length (now t) ⌝ }
+    requires { ⌜ leftAt r < length (now t) ⌝ }
     ensures { λ v. ⌜ v ≡ leftOf (now (t .entry)) r ⌝ }
 {
-    t[4 + r]
+    t[left_at(r)]
 }
 
 // The length of the right side of production r.
 pub fn length_of(t: &[u16], z: Shape, r: usize) -> u16
-    requires { ⌜ (Shaped (now t) z) × (4 + productions (now t) + r < length (now t)) ⌝ }
+    requires { ⌜ (Shaped (now t) z) × (lengthAt (productions (now t)) r < length (now t)) ⌝ }
     ensures { λ v. ⌜ v ≡ lengthOf (now (t .entry)) r ⌝ }
 {
-    t[4 + z.productions + r]
+    t[length_at(z.productions, r)]
 }
 
 // The rows of cells.

@@ -3,52 +3,51 @@ use mathlib.Core.Path.{_≡_, sym, ap, ap₂, _∙_, subst}
 use mathlib.Core.List.{List}
 use mathlib.Core.Bool.{true}
 use mathlib.Core.Logic.{_⊎_, inl, inr, ⊎-elim, _≢_}
-use Prim.Native.Nat.{ℕ, _+_, _-_, _*_, _^_, _≤_, _<_}
+use Prim.Native.Nat.{ℕ, _+_, _-_, _≤_, _<_}
 use native.Mathlib.Omega.{arith}
 use native.Mathlib.Nat.{eq-or-lt-of-le}
 use lib.ListN.{getD}
 use Rattle.sets.specs.Bit.{count}
 use Rattle.sets.proofs.HasLaws.{lt-or-ge}
 use Rattle.grammar.specs.Card.{terminals, productions, startOf, formFault}
-use Rattle.transitions.specs.Area.{leavesOf, nonterminalOf, firstOf, enteringOf, precedes, startingOf, lastOf, linkOf, occurrencesOf, pairOf, nullablesOf}
+use Rattle.tables.specs.Conflicts.{Before, lower-state, lower-symbol}
+use Rattle.transitions.specs.Places.{transitionLimit, enteringAt, startsAt, lastsAt, productionsAt, dotsAt, linksAt, occurrencesAt}
+use Rattle.transitions.specs.Area.{leavesOf, nonterminalOf, firstOf, enteringOf, precedes, startingOf, lastOf, linkOf, occurrencesOf, nullablesOf}
 use Rattle.transitions.specs.Next.{Goes, Numbered, moves, transitionCount}
 use Rattle.transitions.specs.Occurrences.{symbolAt, occurringOf, Occurrences}
 use Rattle.transitions.specs.Data.{Enters, Data, Built}
+use Rattle.transitions.proofs.WriteLaws.{nullables-same}
 use Rattle.occurrences.specs.Stores.{Cleared}
-use Rattle.transition_lists.specs.Passes.{Before, Listing, Firsts, Passed, Come}
+use Rattle.transition_lists.specs.Passes.{Listing, Firsts, Passed, Come}
 use Rattle.occurrences.specs.Gathers.{Prepared}
 use Rattle.transition_lists.proofs.PassLaws.{lower}
 use Rattle.occurrences.proofs.GatherLaws.{latest-same}
 
--- ---- the card's part, where the places from 8705 on are the same
+-- ---- the card's part, where the places from startsAt on are the same
 
-module _ (c : List ℕ) (e : ℕ) (w w′ : List ℕ) (same : (i : ℕ) → 8705 ≤ i → getD w′ i 0 ≡ getD w i 0) where
+module _ (c : List ℕ) (e : ℕ) (w w′ : List ℕ) (same : (i : ℕ) → startsAt ≤ i → getD w′ i 0 ≡ getD w i 0) where
   occurring-same : (o : ℕ) → occurringOf c w′ o ≡ occurringOf c w o
   unfolding occurringOf
-  occurring-same o = ap₂ (symbolAt c) (same (8895 + o) (omega arith)) (same (9407 + o) (omega arith))
+  occurring-same o = ap₂ (symbolAt c) (same (productionsAt + o) (omega arith)) (same (dotsAt + o) (omega arith))
 
   occurrences-same : Occurrences c e w → Occurrences c e w′
   occurrences-same O =
-      let m : occurrencesOf w′ ≡ occurrencesOf w = same 10433 (omega arith) in
+      let m : occurrencesOf w′ ≡ occurrencesOf w = same occurrencesAt (omega arith) in
       record {
         most = rw m (O .most);
-        occurs = λ o h. rw (same (8895 + o) (omega arith), same (9407 + o) (omega arith)) (O .occurs o (rw m at h));
-        all = λ r d s. let a = O .all r d s in (a .0, rw m (a .1), same (8895 + a .0) (omega arith) ∙ a .2, same (9407 + a .0) (omega arith) ∙ a .3);
-        last = λ j h. rw (m, same (8834 + j) (omega arith)) (latest-same c w w′ (terminals c + j) (occurrencesOf w) (lastOf w j) (λ o l. occurring-same o) (O .last j h));
-        link = λ o h. rw (same (9919 + o) (omega arith), occurring-same o) (latest-same c w w′ (occurringOf c w o) o (linkOf w o) (λ o l. occurring-same o) (O .link o (rw m at h)));
+        occurs = λ o h. rw (same (productionsAt + o) (omega arith), same (dotsAt + o) (omega arith)) (O .occurs o (rw m at h));
+        all = λ r d s. let a = O .all r d s in (a .0, rw m (a .1), same (productionsAt + a .0) (omega arith) ∙ a .2, same (dotsAt + a .0) (omega arith) ∙ a .3);
+        last = λ j h. rw (m, same (lastsAt + j) (omega arith)) (latest-same c w w′ (terminals c + j) (occurrencesOf w) (lastOf w j) (λ o l. occurring-same o) (O .last j h));
+        link = λ o h. rw (same (linksAt + o) (omega arith), occurring-same o) (latest-same c w w′ (occurringOf c w o) o (linkOf w o) (λ o l. occurring-same o) (O .link o (rw m at h)));
       }
-
-  nullables-same : nullablesOf w ≡ e → nullablesOf w′ ≡ e
-  unfolding pairOf
-  nullables-same h = ap₂ (λ (a b : ℕ). a + b * 2 ^ 32) (same 10431 (omega arith)) (same 10432 (omega arith)) ∙ h
 
 -- ---- the table's part
 
 never : (p y : ℕ) → Before p y p y → ⊥
-never p y (inl h) = omega arith
-never p y (inr h) = let a = h .1 in omega arith
+never p y (lower-state h) = omega arith
+never p y (lower-symbol h l) = omega arith
 
-module _ (c : List ℕ) (n : ℕ) (next : ℕ → ℕ → ℕ) (N : Numbered c n next) (t : 1 ≤ terminals c) (w : List ℕ) (k : ℕ) (P : Passed c next w n 1 k 257) (few : k ≤ 2048) where
+module _ (c : List ℕ) (n : ℕ) (next : ℕ → ℕ → ℕ) (N : Numbered c n next) (t : 1 ≤ terminals c) (w : List ℕ) (k : ℕ) (P : Passed c next w n 1 k 257) (few : k ≤ transitionLimit) where
   L : Listing c next w n 1 k
   L = P .listing few
 
@@ -101,8 +100,8 @@ module _ (c : List ℕ) (n : ℕ) (next : ℕ → ℕ → ℕ) (N : Numbered c n
       record {
         from = omega (arith, N .most);
         into = omega (arith, N .most);
-        before = subst (λ (z : ℕ). precedes w z p ≡ true) (g .target) (P .seen .before p x (inl hp) nz);
-        symbol = subst (λ (z : ℕ). enteringOf w z ≡ x) (g .target) (P .seen .symbol p x (inl hp) nz);
+        before = subst (λ (z : ℕ). precedes w z p ≡ true) (g .target) (P .seen .before p x (lower-state hp) nz);
+        symbol = subst (λ (z : ℕ). enteringOf w z ≡ x) (g .target) (P .seen .symbol p x (lower-state hp) nz);
       }
 
   enters : (p x q : ℕ) → Enters w p x q → Goes next p x q
@@ -134,7 +133,7 @@ module _ (c : List ℕ) (n : ℕ) (next : ℕ → ℕ → ℕ) (N : Numbered c n
       states = leaves;
       target = L .target;
       some = L .some;
-      listed = λ p x s z. L .all p x s (inl (N .from p x z)) z;
+      listed = λ p x s z. L .all p x s (lower-state (N .from p x z)) z;
       goes = goes;
       enters = enters;
       start = P .seen .start;
@@ -144,16 +143,16 @@ module _ (c : List ℕ) (n : ℕ) (next : ℕ → ℕ → ℕ) (N : Numbered c n
 -- ---- both
 
 pub built : (c : List ℕ) (n : ℕ) (next : ℕ → ℕ → ℕ) → Numbered c n next → 1 ≤ terminals c → formFault c ≡ 0 → (e k : ℕ) (w₀ w₁ w₂ w₃ w₄ : List ℕ)
-    → Prepared c e w₀ w₁ → Cleared w₁ 6401 8705 w₂ → Come c next w₂ w₃ n 1 k n → Come c next w₃ w₄ n 1 k 257 → Built c w₀ w₄ n k e next
+    → Prepared c e w₀ w₁ → Cleared w₁ enteringAt startsAt w₂ → Come c next w₂ w₃ n 1 k n → Come c next w₃ w₄ n 1 k 257 → Built c w₀ w₄ n k e next
 unfolding count
 built c n next N t ff e k w₀ w₁ w₂ w₃ w₄ R Z A B = record {
   count = ck;
-  holds = λ h. data-of c n next N t w₄ k (B .passed) h e ff (λ r g. same (8705 + r) (omega arith) ∙ R .starts .starts r g) (occurrences-same c e w₁ w₄ same (R .occurrences)) (nullables-same c e w₁ w₄ same (R .nullables)) ck;
+  holds = λ h. data-of c n next N t w₄ k (B .passed) h e ff (λ r g. same (startsAt + r) (omega arith) ∙ R .starts .starts r g) (occurrences-same c e w₁ w₄ same (R .occurrences)) (nullables-same w₁ w₄ (λ i l h. same i (omega arith)) ∙ R .nullables) ck;
   long = B .rest .long ∙ A .rest .long ∙ Z .long ∙ R .long;
   rest = λ i h. same i (omega arith) ∙ R .high i h;
 }
   where
-    same : (i : ℕ) → 8705 ≤ i → getD w₄ i 0 ≡ getD w₁ i 0
+    same : (i : ℕ) → startsAt ≤ i → getD w₄ i 0 ≡ getD w₁ i 0
     same i h = B .rest .high i h ∙ A .rest .high i h ∙ Z .high i h
 
     ck : k ≡ transitionCount c next n

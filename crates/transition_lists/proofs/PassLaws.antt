@@ -3,42 +3,43 @@ use mathlib.Core.Path.{_≡_, refl, sym, ap, ap₂, _∙_, subst}
 use mathlib.Core.List.{List}
 use mathlib.Core.Bool.{Bool, not, _&&_, false≢true}
 use mathlib.Core.Logic.{_⊎_, inl, inr, ⊎-elim, _≢_}
-use Prim.Native.Nat.{ℕ, zero, suc, _+_, _-_, _*_, _/_, _%_, _≤_, _<_}
+use Prim.Native.Nat.{ℕ, zero, suc, _+_, _-_, _*_, _≤_, _<_}
 use native.Mathlib.Omega.{arith}
 use native.Mathlib.Nat.{eq-or-lt-of-le, zero-add}
 use native.Mathlib.Numerals.{add-one}
 use lib.Dec.{eqb}
-use lib.ListN.{length, getD, set, length-set}
-use lib.Seq.{getD-set-same, getD-set-other}
+use lib.ListN.{getD}
 use borrow.Author.Tests.{eq-eqb, ne-eqb, lt-ltb, eqb-true}
-use Rattle.sets.specs.Bit.{bit, count, one-if}
-use Rattle.sets.proofs.BitLaws.{bit-zero}
+use Rattle.sets.specs.Bit.{count, one-if}
 use Rattle.sets.proofs.CountLaws.{count-le}
 use Rattle.sets.proofs.HasLaws.{lt-or-ge, or-cases, or-left, or-right}
 use Rattle.sets.proofs.TestLaws.{and-both, and-true}
 use Rattle.grammar.specs.Card.{terminals, nonterminals}
+use Rattle.tables.specs.Conflicts.{Before, lower-state, lower-symbol}
+use Rattle.transitions.specs.Places.{transitionLimit, leavesAt, nonterminalsAt, entersAt, firstsAt, enteringAt, startsAt}
 use Rattle.transitions.specs.Area.{leavesOf, nonterminalOf, entersOf, firstOf, enteringOf, precedes}
-use Rattle.tables.specs.Layout.{rowOf}
+use Rattle.areas.specs.Areas.{rowOf}
 use Rattle.transitions.specs.Next.{nextOf, Numbered, moves, transitionCount}
 use Rattle.occurrences.specs.Stores.{Cleared}
-use Rattle.occurrences.proofs.StoreLaws.{eq-or}
+use Rattle.transitions.specs.Writes.{Stored}
+use Rattle.transitions.proofs.WriteLaws.{eq-or, precedes-same, precedes-none}
 use Rattle.transition_lists.specs.Stores.{Noted, Celled}
 use Rattle.transition_lists.specs.Stores.Celled.{vacant, terminal, many, listed}
-use Rattle.transition_lists.specs.Passes.{Before, Listing, Firsts, Seen, Passed, Behind, Come}
+use Rattle.transition_lists.specs.Passes.{Listing, Firsts, Seen, Passed, Behind, Come}
 
 -- ---- the order of cells
 
 pub before-suc : (p y q x : ℕ) → Before p y q (x + 1) → Before p y q x ⊎ ((p ≡ q) × (y ≡ x))
-before-suc p y q x (inl h) = inl (inl h)
-before-suc p y q x (inr h) =
-    ⊎-elim (λ (e : y ≡ x). inr (h .0, e)) (λ (e : y < x). inl (inr (h .0, e))) (eq-or-lt-of-le (let z = h .1 in let l : y ≤ x = omega arith in l))
+before-suc p y q x (lower-state h) = inl (lower-state h)
+before-suc p y q x (lower-symbol h l) =
+    ⊎-elim (λ (e : y ≡ x). inr (h, e)) (λ (e : y < x). inl (lower-symbol h e)) (eq-or-lt-of-le (let k : y ≤ x = omega arith in k))
 
 pub before-up : (p y q x : ℕ) → Before p y q x → Before p y q (x + 1)
-before-up p y q x (inl h) = inl h
-before-up p y q x (inr h) = inr (h .0, let z = h .1 in omega arith)
+before-up p y q x (lower-state h) = lower-state h
+before-up p y q x (lower-symbol h l) = lower-symbol h (omega arith)
 
 pub before-self : (q x : ℕ) → Before q x q (x + 1)
-before-self q x = inr (refl, omega arith)
+before-self q x = lower-symbol refl (omega arith)
 
 -- ---- the cell that a place of the table area holds
 
@@ -124,17 +125,16 @@ module _ (w w′ : List ℕ) (k f : ℕ) (old : Old w w′ k) (firsts : (u : ℕ
 
 -- ---- what is noted at the states
 
-pub seen-same : (next : ℕ → ℕ → ℕ) (w w′ : List ℕ) (q x : ℕ) → ((i : ℕ) → 6401 ≤ i → i < 8705 → getD w′ i 0 ≡ getD w i 0) → ((p y : ℕ) → next p y < 256) → ((p y : ℕ) → next p y ≢ 0 → p < 256) → Seen next w q x → Seen next w′ q x
-unfolding precedes
+pub seen-same : (next : ℕ → ℕ → ℕ) (w w′ : List ℕ) (q x : ℕ) → ((i : ℕ) → enteringAt ≤ i → i < startsAt → getD w′ i 0 ≡ getD w i 0) → ((p y : ℕ) → next p y < 256) → ((p y : ℕ) → next p y ≢ 0 → p < 256) → Seen next w q x → Seen next w′ q x
 seen-same next w w′ q x same target from S = record {
-  symbol = λ p y b z. let t = target p y in same (6401 + next p y) (omega arith) (omega arith) ∙ S .symbol p y b z;
-  before = λ p y b z.
-      let t = target p y in
-      let f = from p y z in
-      ap (λ (a : ℕ). bit a (p % 32)) (same (6657 + 8 * next p y + p / 32) (omega arith) (omega arith)) ∙ S .before p y b z;
-  only = λ u p hu hp g. S .only u p hu hp (sym (ap (λ (a : ℕ). bit a (p % 32)) (same (6657 + 8 * u + p / 32) (omega arith) (omega arith))) ∙ g);
-  start = same 6401 (omega arith) (omega arith) ∙ S .start;
+  symbol = λ p y b z. let t = target p y in same (enteringAt + next p y) (omega arith) (omega arith) ∙ S .symbol p y b z;
+  before = λ p y b z. before (next p y) p (target p y) (from p y z) ∙ S .before p y b z;
+  only = λ u p hu hp g. S .only u p hu hp (sym (before u p hu hp) ∙ g);
+  start = same enteringAt (omega arith) (omega arith) ∙ S .start;
 }
+  where
+    before : (u p : ℕ) → u < 256 → p < 256 → precedes w′ u p ≡ precedes w u p
+    before u p hu hp = precedes-same w′ u p hu hp w (λ i l h. same i (omega arith) h)
 
 module _ (c : List ℕ) (n : ℕ) (next : ℕ → ℕ → ℕ) (N : Numbered c n next) (w : List ℕ) (q x : ℕ) (S : Seen next w q x) where
   seen-keep : next q x ≡ 0 → Seen next w q (x + 1)
@@ -213,11 +213,11 @@ module _ (c : List ℕ) (next : ℕ → ℕ → ℕ) (q x : ℕ) where
 -- ---- a cell
 
 module _ (c : List ℕ) (n : ℕ) (next : ℕ → ℕ → ℕ) (N : Numbered c n next) (w₀ w : List ℕ) (q x k f : ℕ) (hf : f ≤ q + 1) (hg : f ≤ 257) (C : Come c next w₀ w q x k f) where
-  noted-old : (v : ℕ) (w′ : List ℕ) → Noted w q x v w′ → k ≤ 2048 → Old w w′ k
-  noted-old v w′ M h i g = (M .low i (omega arith), M .low (2048 + i) (omega arith), M .low (4096 + i) (omega arith))
+  noted-old : (v : ℕ) (w′ : List ℕ) → Noted w q x v w′ → k ≤ transitionLimit → Old w w′ k
+  noted-old v w′ M h i g = (M .low (leavesAt + i) (omega arith), M .low (nonterminalsAt + i) (omega arith), M .low (entersAt + i) (omega arith))
 
   noted-firsts : (v : ℕ) (w′ : List ℕ) → Noted w q x v w′ → (u : ℕ) → u < f → firstOf w′ u ≡ firstOf w u
-  noted-firsts v w′ M u h = M .low (6144 + u) (omega arith)
+  noted-firsts v w′ M u h = M .low (firstsAt + u) (omega arith)
 
   pub step : (v : ℕ) {w′ : List ℕ} {k′ : ℕ} → v ≡ next q x → Celled (terminals c) w k q x v w′ k′ → Come c next w₀ w′ q (x + 1) k′ f
   step v e (vacant z) =
@@ -271,49 +271,40 @@ module _ (c : List ℕ) (n : ℕ) (next : ℕ → ℕ → ℕ) (N : Numbered c n
 
       old : Old w w′ k
       old i g =
-          let a = noted-old v w₁ M (let z : k ≤ 2048 = omega arith in z) i g in
+          let a = noted-old v w₁ M (let z : k ≤ transitionLimit = omega arith in z) i g in
           let b = P .old i g in
           (b .0 ∙ a .0, b .1 ∙ a .1, b .2 ∙ a .2)
 
       firsts : (u : ℕ) → u < f → firstOf w′ u ≡ firstOf w u
-      firsts u h = P .high (6144 + u) (omega arith) ∙ noted-firsts v w₁ M u h
+      firsts u h = P .high (firstsAt + u) (omega arith) ∙ noted-firsts v w₁ M u h
 
 -- ---- a state
 
 -- the place of a first transition is stored
-module _ (c : List ℕ) (n : ℕ) (next : ℕ → ℕ → ℕ) (N : Numbered c n next) (w₀ w : List ℕ) (q x k f : ℕ) (C : Come c next w₀ w q x k f) where
-  pub store-first : f < 257 → 16384 ≤ length w → (k ≤ 2048 → (i : ℕ) → i < k → leavesOf w i < f) → Come c next w₀ (set w (6144 + f) k) q x k (f + 1)
-  store-first hf l b = record {
+module _ (c : List ℕ) (n : ℕ) (next : ℕ → ℕ → ℕ) (N : Numbered c n next) (w₀ w w′ : List ℕ) (q x k f : ℕ) (C : Come c next w₀ w q x k f) (S : Stored w (firstsAt + f) k w′) where
+  pub store-first : f < 257 → (k ≤ transitionLimit → (i : ℕ) → i < k → leavesOf w i < f) → Come c next w₀ w′ q x k (f + 1)
+  store-first hf b = record {
     passed = record {
       count = C .passed .count;
       listing = λ h. listing-same c next w w′ q x k (old h) (C .passed .listing h);
-      most = λ u h. two u h (λ (u : ℕ). firstOf w′ u ≤ k) (λ g. rw (other (6144 + u) (λ z. omega arith)) (C .passed .most u g)) (rw same (omega arith));
+      most = λ u h. two u h (λ (u : ℕ). firstOf w′ u ≤ k) (λ g. rw (S .other (firstsAt + u) (λ z. omega arith)) (C .passed .most u g)) (rw (S .here) (omega arith));
       firsts = λ h. record {
         below = λ u i hu hi.
             two u hu (λ (u : ℕ). i < firstOf w′ u → leavesOf w′ i < u)
-            (λ g z. rw (old h i hi .0) (C .passed .firsts h .below u i g hi (rw (other (6144 + u) (λ z. omega arith)) at z)))
+            (λ g z. rw (old h i hi .0) (C .passed .firsts h .below u i g hi (rw (S .other (firstsAt + u) (λ z. omega arith)) at z)))
             (λ z. rw (old h i hi .0) (b h i hi));
         from = λ u i hu hi.
             two u hu (λ (u : ℕ). leavesOf w′ i < u → i < firstOf w′ u)
-            (λ g z. rw (other (6144 + u) (λ z. omega arith)) (C .passed .firsts h .from u i g hi (rw (old h i hi .0) at z)))
-            (λ z. rw same hi);
+            (λ g z. rw (S .other (firstsAt + u) (λ z. omega arith)) (C .passed .firsts h .from u i g hi (rw (old h i hi .0) at z)))
+            (λ z. rw (S .here) hi);
       };
-      seen = seen-same next w w′ q x (λ i a d. other i (λ z. omega arith)) (λ p y. let z = N .target p y in omega (arith, N .most)) (λ p y s. let z = N .from p y s in omega (arith, N .most)) (C .passed .seen);
+      seen = seen-same next w w′ q x (λ i a d. S .other i (λ z. omega arith)) (λ p y. let z = N .target p y in omega (arith, N .most)) (λ p y s. let z = N .from p y s in omega (arith, N .most)) (C .passed .seen);
     };
-    rest = record { long = length-set w (6144 + f) k ∙ C .rest .long; high = λ i h. other i (λ z. omega arith) ∙ C .rest .high i h };
+    rest = record { long = S .long ∙ C .rest .long; high = λ i h. S .other i (λ z. omega arith) ∙ C .rest .high i h };
   }
     where
-      w′ : List ℕ
-      w′ = set w (6144 + f) k
-
-      other : (i : ℕ) → (i ≡ 6144 + f → ⊥) → getD (set w (6144 + f) k) i 0 ≡ getD w i 0
-      other i z = getD-set-other w (6144 + f) i k 0 z
-
-      same : getD (set w (6144 + f) k) (6144 + f) 0 ≡ k
-      same = getD-set-same w (6144 + f) k 0 (omega arith)
-
-      old : k ≤ 2048 → Old w (set w (6144 + f) k) k
-      old h i g = (other i (λ z. omega arith), other (2048 + i) (λ z. omega arith), other (4096 + i) (λ z. omega arith))
+      old : k ≤ transitionLimit → Old w w′ k
+      old h i g = (S .other (leavesAt + i) (λ z. omega arith), S .other (nonterminalsAt + i) (λ z. omega arith), S .other (entersAt + i) (λ z. omega arith))
 
       two : (u : ℕ) → u < f + 1 → (P : ℕ → Type 0) → (u < f → P u) → P f → P u
       two u h P a d = ⊎-elim (λ (e : u ≡ f). subst P (sym e) d) (λ (g : u < f). a g) (eq-or-lt-of-le (let z : u ≤ f = omega arith in z))
@@ -321,16 +312,20 @@ module _ (c : List ℕ) (n : ℕ) (next : ℕ → ℕ → ℕ) (N : Numbered c n
 module _ (c : List ℕ) (n : ℕ) (next : ℕ → ℕ → ℕ) (t : 1 ≤ terminals c) where
   -- the transitions listed before state q leave lower states
   pub lower : (w : List ℕ) (q k : ℕ) → Listing c next w q 1 k → (i : ℕ) → i < k → leavesOf w i < q
-  lower w q k L i h = ⊎-elim (λ g. g) (λ g. absurd (let a = g .1 in let b = L .low i h in let z : ⊥ = omega arith in z)) (L .place i h)
+  lower w q k L i h = go (L .place i h)
+    where
+      go : Before (leavesOf w i) (nonterminalOf w i) q 1 → leavesOf w i < q
+      go (lower-state g) = g
+      go (lower-symbol g l) = absurd (let b = L .low i h in let z : ⊥ = omega arith in z)
 
   -- a whole row
   next-row : (p y q : ℕ) → Before p y q (terminals c + nonterminals c) → Before p y (q + 1) 1
-  next-row p y q (inl h) = inl (omega arith)
-  next-row p y q (inr h) = inl (let a = h .0 in omega arith)
+  next-row p y q (lower-state h) = lower-state (omega arith)
+  next-row p y q (lower-symbol h l) = lower-state (omega arith)
 
   back-row : (p y q : ℕ) → 0 < y → y < terminals c + nonterminals c → Before p y (q + 1) 1 → Before p y q (terminals c + nonterminals c)
-  back-row p y q l g (inl h) = ⊎-elim (λ (e : p ≡ q). inr (e, g)) (λ (e : p < q). inl e) (eq-or-lt-of-le (let z : p ≤ q = omega arith in z))
-  back-row p y q l g (inr h) = absurd (let a = h .1 in let z : ⊥ = omega arith in z)
+  back-row p y q l g (lower-state h) = ⊎-elim (λ (e : p ≡ q). lower-symbol e g) (λ (e : p < q). lower-state e) (eq-or-lt-of-le (let z : p ≤ q = omega arith in z))
+  back-row p y q l g (lower-symbol h k) = absurd (let z : ⊥ = omega arith in z)
 
   pub row-done : (N : Numbered c n next) (w₀ w : List ℕ) (q x k f : ℕ) → x ≡ terminals c + nonterminals c → Come c next w₀ w q x k f → Come c next w₀ w (q + 1) 1 k f
   unfolding transitionCount count
@@ -367,8 +362,8 @@ module _ (c : List ℕ) (n : ℕ) (next : ℕ → ℕ → ℕ) (t : 1 ≤ termin
           C .passed .count ∙ rw (a, b, add-one q) (let z : transitionCount c next q + count (moves c next q) (nonterminals c) ≡ transitionCount c next q + count (moves c next q) (nonterminals c) + 0 = omega arith in z)
 
   -- before the first cell
-  pub start : (N : Numbered c n next) (w₀ w : List ℕ) → Cleared w₀ 6401 8705 w → Passed c next w 0 1 0 0
-  unfolding transitionCount count precedes
+  pub start : (N : Numbered c n next) (w₀ w : List ℕ) → Cleared w₀ enteringAt startsAt w → Passed c next w 0 1 0 0
+  unfolding transitionCount count
   start N w₀ w C = record {
     count = let b : 1 - terminals c ≡ 0 = omega arith in rw b;
     listing = λ h. record {
@@ -384,14 +379,14 @@ module _ (c : List ℕ) (n : ℕ) (next : ℕ → ℕ → ℕ) (t : 1 ≤ termin
     seen = record {
       symbol = λ p y b z. absurd (no p y b z);
       before = λ p y b z. absurd (no p y b z);
-      only = λ u p hu hp g. absurd (false≢true (sym (ap (λ (a : ℕ). bit a (p % 32)) (C .zero (6657 + 8 * u + p / 32) (omega arith) (omega arith)) ∙ bit-zero (p % 32)) ∙ g));
-      start = C .zero 6401 (omega arith) (omega arith);
+      only = λ u p hu hp g. absurd (false≢true (sym (precedes-none w u p hu hp (λ i l h. C .zero i (omega arith) h)) ∙ g));
+      start = C .zero enteringAt (omega arith) (omega arith);
     };
   }
     where
       no : (p y : ℕ) → Before p y 0 1 → next p y ≢ 0 → ⊥
-      no p y (inl h) z = omega arith
-      no p y (inr h) z = let a = h .1 in let b = N .low p y z in omega arith
+      no p y (lower-state h) z = omega arith
+      no p y (lower-symbol h l) z = let b = N .low p y z in omega arith
 
 -- ---- the same, by the numbers that the code computes
 
@@ -417,13 +412,13 @@ pub come-here : (c : List ℕ) (next : ℕ → ℕ → ℕ) (w : List ℕ) (q x 
 come-here c next w q x k f P = record { passed = P; rest = record { long = refl; high = λ i h. refl } }
 
 -- the first transition of the next state
-pub store-row : (c : List ℕ) (n : ℕ) (next : ℕ → ℕ → ℕ) → Numbered c n next → 1 ≤ terminals c → (w₀ w : List ℕ) (q k s : ℕ) → s ≡ q → q ≤ 256 → 16384 ≤ length w → Come c next w₀ w q 1 k q → Come c next w₀ (set w (6144 + s) k) q 1 k (q + 1)
-store-row c n next N t w₀ w q k s es h l C = rw es (store-first c n next N w₀ w q 1 k q C (omega arith) l (λ few i g. lower c n next t w q k (C .passed .listing few) i g))
+pub store-row : (c : List ℕ) (n : ℕ) (next : ℕ → ℕ → ℕ) → Numbered c n next → 1 ≤ terminals c → (w₀ w w′ : List ℕ) (q k : ℕ) → q ≤ 256 → Stored w (firstsAt + q) k w′ → Come c next w₀ w q 1 k q → Come c next w₀ w′ q 1 k (q + 1)
+store-row c n next N t w₀ w w′ q k h S C = store-first c n next N w₀ w w′ q 1 k q C S (omega arith) (λ few i g. lower c n next t w q k (C .passed .listing few) i g)
 
 -- and of a state that there is not
-pub store-none : (c : List ℕ) (n : ℕ) (next : ℕ → ℕ → ℕ) → Numbered c n next → 1 ≤ terminals c → (w₀ w : List ℕ) (k u s : ℕ) → s ≡ u → n ≤ u → u < 257 → 16384 ≤ length w → Come c next w₀ w n 1 k u → Come c next w₀ (set w (6144 + s) k) n 1 k (u + 1)
-store-none c n next N t w₀ w k u s es h g l C =
-    rw es (store-first c n next N w₀ w n 1 k u C g l (λ few i m. let a = lower c n next t w n k (C .passed .listing few) i m in omega arith))
+pub store-none : (c : List ℕ) (n : ℕ) (next : ℕ → ℕ → ℕ) → Numbered c n next → 1 ≤ terminals c → (w₀ w w′ : List ℕ) (k u : ℕ) → n ≤ u → u < 257 → Stored w (firstsAt + u) k w′ → Come c next w₀ w n 1 k u → Come c next w₀ w′ n 1 k (u + 1)
+store-none c n next N t w₀ w w′ k u h g S C =
+    store-first c n next N w₀ w w′ n 1 k u C S g (λ few i m. let a = lower c n next t w n k (C .passed .listing few) i m in omega arith)
 
 pub row-width : (c : List ℕ) (m s x : ℕ) → m ≡ terminals c → s ≡ nonterminals c → x < m + s → x < terminals c + nonterminals c
 row-width c m s x em es h = omega arith

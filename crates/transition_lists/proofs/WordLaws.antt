@@ -12,6 +12,8 @@ use lib.Bits.{bitOr}
 use Rattle.sets.specs.Bit.{bit}
 use Rattle.sets.proofs.HasLaws.{has-none, has-one, one-has, has-or, or-has-l, or-has-r}
 use Rattle.grammar.specs.Card.{terminals}
+use Rattle.areas.specs.Areas.{wordsSize}
+use Rattle.transitions.specs.Places.{transitionLimit, shiftsAt}
 use Rattle.transitions.specs.Area.{leavesOf, nonterminalOf, entersOf}
 use Rattle.transitions.specs.Next.{Numbered}
 use Rattle.transitions.specs.Data.{Data, Holds, Shifts, Ends, Direct, Begun}
@@ -77,45 +79,45 @@ module _ (c w : List ℕ) (next : ℕ → ℕ → ℕ) (z₀ : List ℕ) where
     rest = λ j h. refl;
   }
 
-  pub copied-word : (z : List ℕ) (q s v : ℕ) → s ≡ q → q < 256 → 8192 ≤ length z → Holds v (Shifts c next q) → Copied c w next z₀ z q 0 → Copied c w next z₀ (set z (6144 + s) v) (q + 1) 0
+  pub copied-word : (z : List ℕ) (q s v : ℕ) → s ≡ q → q < 256 → wordsSize ≤ length z → Holds v (Shifts c next q) → Copied c w next z₀ z q 0 → Copied c w next z₀ (set z (shiftsAt + s) v) (q + 1) 0
   copied-word z q s v es h l H C = rw es (record {
     direct = λ j g. absurd (let z : ⊥ = omega arith in z);
     shifts = λ p g.
         ⊎-elim
-        (λ (e : p ≡ q). rw (e, getD-set-same z (6144 + q) v 0 (let a : 6144 + q < length z = omega arith in a)) H)
-        (λ (e : p < q). rw (getD-set-other z (6144 + q) (6144 + p) v 0 (λ a. omega arith)) (C .shifts p e))
+        (λ (e : p ≡ q). rw (e, getD-set-same z (shiftsAt + q) v 0 (let a : shiftsAt + q < length z = omega arith in a)) H)
+        (λ (e : p < q). rw (getD-set-other z (shiftsAt + q) (shiftsAt + p) v 0 (λ a. omega arith)) (C .shifts p e))
         (eq-or-lt-of-le (let a : p ≤ q = omega arith in a));
-    long = length-set z (6144 + q) v ∙ C .long;
-    between = λ j g k. getD-set-other z (6144 + q) j v 0 (λ a. omega arith) ∙ C .between j g k;
-    rest = λ j g. getD-set-other z (6144 + q) j v 0 (λ a. omega arith) ∙ C .rest j (omega arith);
+    long = length-set z (shiftsAt + q) v ∙ C .long;
+    between = λ j g k. getD-set-other z (shiftsAt + q) j v 0 (λ a. omega arith) ∙ C .between j g k;
+    rest = λ j g. getD-set-other z (shiftsAt + q) j v 0 (λ a. omega arith) ∙ C .rest j (omega arith);
   })
 
   pub copied-all : (z : List ℕ) (q n i : ℕ) → q ≤ n → n ≤ q → Copied c w next z₀ z q i → Copied c w next z₀ z n i
   copied-all z q n i h g C = let e : q ≡ n = omega arith in rw e at C
 
-  pub copied-direct : (z : List ℕ) (n i o j s : ℕ) → o ≡ i → j ≡ entersOf w i → entersOf w i < n → i < 2048 → 8192 ≤ length z → Holds s (Ending c w i) → Copied c w next z₀ z n i
-      → Copied c w next z₀ (set z o (bitOr (getD z (6144 + j) 0) s)) n (i + 1)
+  pub copied-direct : (z : List ℕ) (n i o j s : ℕ) → o ≡ i → j ≡ entersOf w i → entersOf w i < n → i < transitionLimit → wordsSize ≤ length z → Holds s (Ending c w i) → Copied c w next z₀ z n i
+      → Copied c w next z₀ (set z o (bitOr (getD z (shiftsAt + j) 0) s)) n (i + 1)
   copied-direct z n i o j s eo ej hn hi l H C =
-      let v = bitOr (getD z (6144 + j) 0) s in
+      let v = bitOr (getD z (shiftsAt + j) 0) s in
       rw eo (record {
         direct = λ u g.
             ⊎-elim
             (λ (e : u ≡ i). rw (e, getD-set-same z i v 0 (let a : i < length z = omega arith in a)) new)
             (λ (e : u < i). rw (getD-set-other z i u v 0 (λ a. omega arith)) (C .direct u e))
             (eq-or-lt-of-le (let a : u ≤ i = omega arith in a));
-        shifts = λ p g. rw (getD-set-other z i (6144 + p) v 0 (λ a. omega arith)) (C .shifts p g);
+        shifts = λ p g. rw (getD-set-other z i (shiftsAt + p) v 0 (λ a. omega arith)) (C .shifts p g);
         long = length-set z i v ∙ C .long;
         between = λ u g k. getD-set-other z i u v 0 (λ a. omega arith) ∙ C .between u (omega arith) k;
         rest = λ u g. getD-set-other z i u v 0 (λ a. omega arith) ∙ C .rest u g;
       })
     where
-      S : Holds (getD z (6144 + j) 0) (Shifts c next (entersOf w i))
+      S : Holds (getD z (shiftsAt + j) 0) (Shifts c next (entersOf w i))
       S = rw ej (C .shifts (entersOf w i) hn)
 
-      new : Holds (bitOr (getD z (6144 + j) 0) s) (Direct c w next i)
+      new : Holds (bitOr (getD z (shiftsAt + j) 0) s) (Direct c w next i)
       new = record {
-        only = λ m h. ⊎-elim (λ a. inr (S .only m a)) (λ a. inl (H .only m a)) (has-or (getD z (6144 + j) 0) s m h);
-        all = λ m d. ⊎-elim (λ a. or-has-r (getD z (6144 + j) 0) s m (H .all m a)) (λ a. or-has-l (getD z (6144 + j) 0) s m (S .all m a)) d;
+        only = λ m h. ⊎-elim (λ a. inr (S .only m a)) (λ a. inl (H .only m a)) (has-or (getD z (shiftsAt + j) 0) s m h);
+        all = λ m d. ⊎-elim (λ a. or-has-r (getD z (shiftsAt + j) 0) s m (H .all m a)) (λ a. or-has-l (getD z (shiftsAt + j) 0) s m (S .all m a)) d;
       }
 
   pub copied-end : (z : List ℕ) (n i k : ℕ) → n ≤ 256 → i ≤ k → k ≤ i → Copied c w next z₀ z n i → Begun c w n k next z₀ z

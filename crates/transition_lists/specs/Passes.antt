@@ -1,18 +1,16 @@
 -- The pass over the rows of the table area: what the area holds when the cells before state q and symbol x are passed.
 use Prim.Native.Nat.{ℕ, _+_, _-_, _≤_, _<_}
 use mathlib.Core.Path.{_≡_}
-use mathlib.Core.Logic.{_≢_, _⊎_}
+use mathlib.Core.Logic.{_≢_}
 use mathlib.Core.Bool.{true}
 use mathlib.Core.List.{List}
 use lib.ListN.{length, getD}
 use Rattle.sets.specs.Bit.{count}
 use Rattle.grammar.specs.Card.{terminals}
+use Rattle.tables.specs.Conflicts.{Before}
+use Rattle.transitions.specs.Places.{transitionLimit, startsAt}
 use Rattle.transitions.specs.Area.{leavesOf, nonterminalOf, entersOf, firstOf, enteringOf, precedes}
 use Rattle.transitions.specs.Next.{moves, transitionCount}
-
--- state p and symbol y come before state q and symbol x
-abbrev pub Before : ℕ → ℕ → ℕ → ℕ → Type 0
-Before p y q x = (p < q) ⊎ ((p ≡ q) × (y < x))
 
 -- the nonterminal transitions passed are listed, k of them, in order
 pub record Listing (c : List ℕ) (next : ℕ → ℕ → ℕ) (w : List ℕ) (q x k : ℕ) : Type 0 where
@@ -37,15 +35,15 @@ pub record Seen (next : ℕ → ℕ → ℕ) (w : List ℕ) (q x : ℕ) : Type 0
 
 pub record Passed (c : List ℕ) (next : ℕ → ℕ → ℕ) (w : List ℕ) (q x k f : ℕ) : Type 0 where
   pub count : k ≡ transitionCount c next q + count (moves c next q) (x - terminals c)
-  pub listing : k ≤ 2048 → Listing c next w q x k
+  pub listing : k ≤ transitionLimit → Listing c next w q x k
   pub most : (u : ℕ) → u < f → firstOf w u ≤ k
-  pub firsts : k ≤ 2048 → Firsts w k f
+  pub firsts : k ≤ transitionLimit → Firsts w k f
   pub seen : Seen next w q x
 
--- w′ is w but for the places below 8705
+-- w′ is w but for the places below startsAt
 pub record Behind (w w′ : List ℕ) : Type 0 where
   pub long : length w′ ≡ length w
-  pub high : (i : ℕ) → 8705 ≤ i → getD w′ i 0 ≡ getD w i 0
+  pub high : (i : ℕ) → startsAt ≤ i → getD w′ i 0 ≡ getD w i 0
 
 -- the pass from w came so far
 pub record Come (c : List ℕ) (next : ℕ → ℕ → ℕ) (w w′ : List ℕ) (q x k f : ℕ) : Type 0 where

@@ -4,7 +4,8 @@ ghost use mathlib.Core.List.{List};
 ghost use Prim.Native.Nat.{ℕ, _+_, _<_, _≤_};
 ghost use lib.ListN.{length};
 ghost use Rattle.grammar.specs.Card.{terminals, nonterminals, formFault};
-ghost use Rattle.tables.specs.Layout.{rowOf};
+ghost use Rattle.areas.specs.Areas.{wordsSize, halvesSize, rowOf};
+ghost use Rattle.transitions.specs.Places.{transitionLimit};
 ghost use Rattle.transitions.specs.Next.{nextOf, Numbered};
 ghost use Rattle.transitions.specs.Data.{Data, Built, Holds, Shifts, Begun};
 ghost use Rattle.transition_lists.specs.Stores.{Noted, Placed, Celled};
@@ -16,35 +17,31 @@ fn row_at(c: &[u16], q: u32) -> usize
     requires { ⌜ (formFault (now c) ≡ 0) × (q < 256) ⌝ }
     ensures { λ r. ⌜ (r ≡ rowOf (now (c .entry)) q) × (r < 65536) ⌝ }
 {
-    let width = card::wide(card::terminals(c)) + card::wide(card::nonterminals(c));
-    4 + 2 * card::wide(card::productions(c)) + card::wide32(q) * width
+    areas::row(c, card::wide32(q))
 }
 
 // Notes at state v a transition by x from state q.
 fn note(w: &mut [u32], q: u32, x: u32, v: u32)
-    requires { ⌜ (q < 256) × (v < 256) × (16384 ≤ length (now w)) ⌝ }
+    requires { ⌜ (q < 256) × (v < 256) × (halvesSize ≤ length (now w)) ⌝ }
     ensures { λ _. ⌜ Noted (now (w .entry)) q x v (now (w .exit)) ⌝ }
 {
-    let s = card::wide32(v);
-    w[6401 + s] = x;
-    let i = 6657 + 8 * s + card::wide32(q / 32);
-    w[i] = w[i] | (1 << (q % 32));
+    transitions::put(w, transitions::ENTERING_AT, v, x);
+    transitions::precede(w, v, q);
 }
 
 // Puts a transition by x from state q to state v down as number k.
 fn place(w: &mut [u32], k: u32, q: u32, x: u32, v: u32)
-    requires { ⌜ (k < 2048) × (16384 ≤ length (now w)) ⌝ }
+    requires { ⌜ (k < transitionLimit) × (halvesSize ≤ length (now w)) ⌝ }
     ensures { λ _. ⌜ Placed (now (w .entry)) k q x v (now (w .exit)) ⌝ }
 {
-    let i = card::wide32(k);
-    w[i] = q;
-    w[2048 + i] = x;
-    w[4096 + i] = v;
+    transitions::put(w, transitions::LEAVES_AT, k, q);
+    transitions::put(w, transitions::NONTERMINALS_AT, k, x);
+    transitions::put(w, transitions::ENTERS_AT, k, v);
 }
 
 // The cell v of state q and the symbol x, with t terminals, after k nonterminal transitions; the answer is how many there are now.
 fn cell(w: &mut [u32], t: u32, k: u32, q: u32, x: u32, v: u32) -> u32
-    requires { ⌜ (q < 256) × (v < 256) × (k < 65536) × (16384 ≤ length (now w)) ⌝ }
+    requires { ⌜ (q < 256) × (v < 256) × (k < 65536) × (halvesSize ≤ length (now w)) ⌝ }
     ensures { λ r. ⌜ Celled t (now (w .entry)) k q x v (now (w .exit)) r ⌝ }
 {
     if v == 0 {
@@ -54,7 +51,7 @@ fn cell(w: &mut [u32], t: u32, k: u32, q: u32, x: u32, v: u32) -> u32
     if x < t {
         return k;
     }
-    if k < 2048 {
+    if k < transitions::LIMIT {
         place(w, k, q, x, v);
         return k + 1;
     }
@@ -63,7 +60,7 @@ fn cell(w: &mut [u32], t: u32, k: u32, q: u32, x: u32, v: u32) -> u32
 
 // The row of state q.
 fn row(c: &[u16], t: &[u16], w: &mut [u32], n: u32, q: u32, k: u32) -> u32
-    requires { ⌜ (formFault (now c) ≡ 0) × Numbered (now c) n (nextOf (now c) (now t) n) × (q < n) × (16384 ≤ length (now w)) × Passed (now c) (nextOf (now c) (now t) n) (now w) q 1 k (q + 1) ⌝ }
+    requires { ⌜ (formFault (now c) ≡ 0) × Numbered (now c) n (nextOf (now c) (now t) n) × (q < n) × (halvesSize ≤ length (now w)) × Passed (now c) (nextOf (now c) (now t) n) (now w) q 1 k (q + 1) ⌝ }
     ensures { λ r. ⌜ Come (now (c .entry)) (nextOf (now (c .entry)) (now (t .entry)) n) (now (w .entry)) (now (w .exit)) q (terminals (now (c .entry)) + nonterminals (now (c .entry))) r (q + 1) ⌝ }
 {
     let m = card::wider(card::terminals(c));
@@ -87,14 +84,13 @@ fn row(c: &[u16], t: &[u16], w: &mut [u32], n: u32, q: u32, k: u32) -> u32
 
 // The rows of all n states; the answer is the number of nonterminal transitions.
 fn rows(c: &[u16], t: &[u16], w: &mut [u32], n: u32) -> u32
-    requires { ⌜ (formFault (now c) ≡ 0) × Numbered (now c) n (nextOf (now c) (now t) n) × (16384 ≤ length (now w)) × Passed (now c) (nextOf (now c) (now t) n) (now w) 0 1 0 0 ⌝ }
+    requires { ⌜ (formFault (now c) ≡ 0) × Numbered (now c) n (nextOf (now c) (now t) n) × (halvesSize ≤ length (now w)) × Passed (now c) (nextOf (now c) (now t) n) (now w) 0 1 0 0 ⌝ }
     ensures { λ k. ⌜ Come (now (c .entry)) (nextOf (now (c .entry)) (now (t .entry)) n) (now (w .entry)) (now (w .exit)) n 1 k n ⌝ }
 {
     let mut k: u32 = 0;
     let mut q: u32 = 0;
     while q < n {
-        let i = 6144 + card::wide32(q);
-        w[i] = k;
+        transitions::put(w, transitions::FIRSTS_AT, q, k);
         k = row(c, t, w, n, q, k);
         q += 1;
     }
@@ -103,24 +99,23 @@ fn rows(c: &[u16], t: &[u16], w: &mut [u32], n: u32) -> u32
 
 // For the states that there are not, the number of all transitions.
 fn close(w: &mut [u32], n: u32, k: u32)
-    requires { ⌜ (n ≤ 256) × (16384 ≤ length (now w)) ⌝ }
+    requires { ⌜ (n ≤ 256) × (halvesSize ≤ length (now w)) ⌝ }
     ensures { λ _. ⌜ ((c : List ℕ) (next : ℕ → ℕ → ℕ) → Numbered c n next → 1 ≤ terminals c → Passed c next (now (w .entry)) n 1 k n → Come c next (now (w .entry)) (now (w .exit)) n 1 k 257) ⌝ }
 {
     let mut u: u32 = n;
     while u < 257 {
-        let i = 6144 + card::wide32(u);
-        w[i] = k;
+        transitions::put(w, transitions::FIRSTS_AT, u, k);
         u += 1;
     }
 }
 
-// All of it: the answer is the number of nonterminal transitions, of which the area holds at most 2,048.
+// All of it: the answer is the number of nonterminal transitions; within the limit the area holds them.
 pub fn build(c: &[u16], t: &[u16], w: &mut [u32], n: u32, e: u64) -> u32
-    requires { ⌜ (formFault (now c) ≡ 0) × Numbered (now c) n (nextOf (now c) (now t) n) × (16384 ≤ length (now w)) ⌝ }
+    requires { ⌜ (formFault (now c) ≡ 0) × Numbered (now c) n (nextOf (now c) (now t) n) × (halvesSize ≤ length (now w)) ⌝ }
     ensures { λ k. ⌜ Built (now (c .entry)) (now (w .entry)) (now (w .exit)) n k e (nextOf (now (c .entry)) (now (t .entry)) n) ⌝ }
 {
     occurrences::prepare(c, w, e);
-    occurrences::clear(w, 6401, 8705);
+    occurrences::clear(w, transitions::ENTERING_AT, transitions::STARTS_AT);
     let k = rows(c, t, w, n);
     close(w, n, k);
     k
@@ -155,14 +150,14 @@ fn shifts(c: &[u16], t: &[u16], n: u32, q: u32) -> u64
     s
 }
 
-// Those of every state, in the words from 6144 on.
+// Those of every state, in the words from SHIFTS_AT on.
 fn words(c: &[u16], t: &[u16], z: &mut [u64], n: u32)
-    requires { ⌜ (formFault (now c) ≡ 0) × (n ≤ 256) × (8192 ≤ length (now z)) ⌝ }
+    requires { ⌜ (formFault (now c) ≡ 0) × (n ≤ 256) × (wordsSize ≤ length (now z)) ⌝ }
     ensures { λ _. ⌜ ((w : List ℕ) → Copied (now (c .entry)) w (nextOf (now (c .entry)) (now (t .entry)) n) (now (z .entry)) (now (z .exit)) n 0) ⌝ }
 {
     let mut q: u32 = 0;
     while q < n {
-        let i = 6144 + card::wide32(q);
+        let i = transitions::SHIFTS_AT + card::wide32(q);
         z[i] = shifts(c, t, n, q);
         q += 1;
     }
@@ -183,13 +178,13 @@ fn ending(c: &[u16], w: &[u32], i: u32) -> u64
 
 // The direct reads of the k transitions, in the words from 0 on.
 pub fn direct(c: &[u16], t: &[u16], w: &[u32], z: &mut [u64], n: u32, k: u32)
-    requires { ⌜ Numbered (now c) n (nextOf (now c) (now t) n) × (8192 ≤ length (now z)) × ((e : ℕ) × Data (now c) (now w) n k e (nextOf (now c) (now t) n)) ⌝ }
+    requires { ⌜ Numbered (now c) n (nextOf (now c) (now t) n) × (wordsSize ≤ length (now z)) × ((e : ℕ) × Data (now c) (now w) n k e (nextOf (now c) (now t) n)) ⌝ }
     ensures { λ _. ⌜ Begun (now (c .entry)) (now (w .entry)) n k (nextOf (now (c .entry)) (now (t .entry)) n) (now (z .entry)) (now (z .exit)) ⌝ }
 {
     words(c, t, z, n);
     let mut i: u32 = 0;
     while i < k {
-        let j = 6144 + card::wide32(transitions::enters(w, i));
+        let j = transitions::SHIFTS_AT + card::wide32(transitions::enters(w, i));
         let o = card::wide32(i);
         z[o] = z[j] | ending(c, w, i);
         i += 1;

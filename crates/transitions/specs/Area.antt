@@ -5,49 +5,50 @@ use mathlib.Core.Bool.{Bool}
 use mathlib.Core.List.{List}
 use lib.ListN.{getD}
 use Rattle.sets.specs.Bit.{bit}
+use Rattle.transitions.specs.Places.{leavesAt, nonterminalsAt, entersAt, firstsAt, enteringAt, predecessorsAt, startsAt, lastsAt, productionsAt, dotsAt, linksAt, nullablesAt, occurrencesAt}
 
 -- nonterminal transition i (the paper's name move): the state that it leaves, its nonterminal, and the state that it enters
 abbrev pub leavesOf : List ℕ → ℕ → ℕ
-leavesOf w i = getD w i 0
+leavesOf w i = getD w (leavesAt + i) 0
 
 abbrev pub nonterminalOf : List ℕ → ℕ → ℕ
-nonterminalOf w i = getD w (2048 + i) 0
+nonterminalOf w i = getD w (nonterminalsAt + i) 0
 
 abbrev pub entersOf : List ℕ → ℕ → ℕ
-entersOf w i = getD w (4096 + i) 0
+entersOf w i = getD w (entersAt + i) 0
 
 -- the number of the first transition of state q; at 256 the number of all
 abbrev pub firstOf : List ℕ → ℕ → ℕ
-firstOf w q = getD w (6144 + q) 0
+firstOf w q = getD w (firstsAt + q) 0
 
 -- the symbol under which state q is entered, 0 for state 0
 abbrev pub enteringOf : List ℕ → ℕ → ℕ
-enteringOf w q = getD w (6401 + q) 0
+enteringOf w q = getD w (enteringAt + q) 0
 
 -- whether state p has a transition to state q
 unfoldable pub precedes : List ℕ → ℕ → ℕ → Bool
-precedes w q p = bit (getD w (6657 + 8 * q + p / 32) 0) (p % 32)
+precedes w q p = bit (getD w (predecessorsAt + 8 * q + p / 32) 0) (p % 32)
 
 -- where the symbols of production r begin
 abbrev pub startingOf : List ℕ → ℕ → ℕ
-startingOf w r = getD w (8705 + r) 0
+startingOf w r = getD w (startsAt + r) 0
 
 -- the occurrences of nonterminals with only nullable symbols behind them: the last one of nonterminal number j, plus 1, or 0;
 -- the production and the dot of occurrence o; the one before it of the same nonterminal, plus 1, or 0; how many there are
 abbrev pub lastOf : List ℕ → ℕ → ℕ
-lastOf w j = getD w (8834 + j) 0
+lastOf w j = getD w (lastsAt + j) 0
 
 abbrev pub productionOf : List ℕ → ℕ → ℕ
-productionOf w o = getD w (8895 + o) 0
+productionOf w o = getD w (productionsAt + o) 0
 
 abbrev pub dotOf : List ℕ → ℕ → ℕ
-dotOf w o = getD w (9407 + o) 0
+dotOf w o = getD w (dotsAt + o) 0
 
 abbrev pub linkOf : List ℕ → ℕ → ℕ
-linkOf w o = getD w (9919 + o) 0
+linkOf w o = getD w (linksAt + o) 0
 
 abbrev pub occurrencesOf : List ℕ → ℕ
-occurrencesOf w = getD w 10433 0
+occurrencesOf w = getD w occurrencesAt 0
 
 -- two numbers as one of 64 bits
 unfoldable pub pairOf : List ℕ → ℕ → ℕ
@@ -60,4 +61,4 @@ pub record Paired (w : List ℕ) (i r : ℕ) : Type 0 where
 
 -- the nullable nonterminals, bit j for nonterminal number j
 abbrev pub nullablesOf : List ℕ → ℕ
-nullablesOf w = pairOf w 10431
+nullablesOf w = pairOf w nullablesAt

@@ -7,6 +7,7 @@ use mathlib.Core.List.{List}
 use lib.ListN.{length, getD}
 use Rattle.sets.specs.Bit.{bit}
 use Rattle.grammar.specs.Card.{terminals, nonterminals, productions, startOf, formFault}
+use Rattle.transitions.specs.Places.{transitionLimit, halvesEnd, shiftsAt, wordsEnd}
 use Rattle.transitions.specs.Area.{leavesOf, nonterminalOf, entersOf, firstOf, enteringOf, precedes, startingOf, nullablesOf}
 use Rattle.transitions.specs.Next.{Goes, transitionCount}
 use Rattle.transitions.specs.Occurrences.{Occurrences}
@@ -21,7 +22,7 @@ pub record Enters (w : List ℕ) (p x q : ℕ) : Type 0 where
 -- the area w is in order for the card c and k transitions, whatever they mean
 pub record Ordered (c w : List ℕ) (k : ℕ) : Type 0 where
   pub formed : formFault c ≡ 0
-  pub few : k ≤ 2048
+  pub few : k ≤ transitionLimit
   pub total : firstOf w 256 ≡ k
   pub leaves : (i : ℕ) → i < k → leavesOf w i < 256
   pub enters : (i : ℕ) → i < k → entersOf w i < 256
@@ -47,12 +48,12 @@ pub record Data (c w : List ℕ) (n k e : ℕ) (next : ℕ → ℕ → ℕ) : Ty
   pub start : enteringOf w 0 ≡ 0
   pub nullables : nullablesOf w ≡ e
 
--- the area after building: k transitions are counted, and with at most 2,048 of them the area holds them; places from 10434 on are as they were
+-- the area after building: k transitions are counted, and within the limit the area holds them; places from halvesEnd on are as they were
 pub record Built (c w₀ w : List ℕ) (n k e : ℕ) (next : ℕ → ℕ → ℕ) : Type 0 where
   pub count : k ≡ transitionCount c next n
-  pub holds : k ≤ 2048 → Data c w n k e next
+  pub holds : k ≤ transitionLimit → Data c w n k e next
   pub long : length w ≡ length w₀
-  pub rest : (i : ℕ) → 10434 ≤ i → getD w i 0 ≡ getD w₀ i 0
+  pub rest : (i : ℕ) → halvesEnd ≤ i → getD w i 0 ≡ getD w₀ i 0
 
 -- ---- direct reads
 
@@ -76,10 +77,10 @@ pub record Ends (c w : List ℕ) (i : ℕ) : Type 0 where
 abbrev pub Direct : List ℕ → List ℕ → (ℕ → ℕ → ℕ) → ℕ → ℕ → Type 0
 Direct c w next i m = ((m ≡ 0) × Ends c w i) ⊎ Shifts c next (entersOf w i) m
 
--- the 64-bit area: the direct reads of transition i at i, the terminals that state q shifts at 6144 + q; other places are as they were
+-- the 64-bit area: the direct reads of transition i at i, the terminals that state q shifts at shiftsAt + q; other places are as they were
 pub record Begun (c w : List ℕ) (n k : ℕ) (next : ℕ → ℕ → ℕ) (z₀ z : List ℕ) : Type 0 where
   pub direct : (i : ℕ) → i < k → Holds (getD z i 0) (Direct c w next i)
-  pub shifts : (q : ℕ) → q < n → Holds (getD z (6144 + q) 0) (Shifts c next q)
+  pub shifts : (q : ℕ) → q < n → Holds (getD z (shiftsAt + q) 0) (Shifts c next q)
   pub long : length z ≡ length z₀
-  pub between : (i : ℕ) → k ≤ i → i < 6144 → getD z i 0 ≡ getD z₀ i 0
-  pub rest : (i : ℕ) → 6400 ≤ i → getD z i 0 ≡ getD z₀ i 0
+  pub between : (i : ℕ) → k ≤ i → i < shiftsAt → getD z i 0 ≡ getD z₀ i 0
+  pub rest : (i : ℕ) → wordsEnd ≤ i → getD z i 0 ≡ getD z₀ i 0

@@ -8,7 +8,7 @@ use lib.Dec.{ltb, eqb}
 use lib.ListN.{getD}
 use Rattle.sets.specs.Bit.{count}
 use Rattle.grammar.specs.Card.{terminals, nonterminals}
-use Rattle.tables.specs.Layout.{rowOf}
+use Rattle.areas.specs.Areas.{rowOf}
 
 -- the state to which state q, one of n, goes by the symbol x; 0 where there is none
 unfoldable pub nextOf : List ℕ → List ℕ → ℕ → ℕ → ℕ → ℕ

@@ -2,9 +2,11 @@
 //
 //   reader_test              the archive, CASES cases (2,000,000) from SEED (1)
 //   reader_test self-check   wrong readers in the archive's place: each must be told from the right one
+//   reader_test enough       the lengths that bindings/c/sidumza.h says are enough, CASES cases (100,000)
 mod cases;
 mod guarded;
 mod lalr;
+mod lent;
 mod reference;
 mod wrong;
 
@@ -203,6 +205,9 @@ fn main() {
     if std::env::args().nth(1).as_deref() == Some("self-check") {
         println!("seed {seed}");
         std::process::exit(!self_check(seed) as i32);
+    }
+    if std::env::args().nth(1).as_deref() == Some("enough") {
+        std::process::exit(!lent::enough(seed, from_environment("CASES", 100_000)) as i32);
     }
     let count = from_environment("CASES", 2_000_000);
     println!("seed {seed}, {count} cases");

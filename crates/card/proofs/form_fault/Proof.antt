@@ -1,6 +1,4 @@
 use mathlib.Core.Path.{_≡_, sym, ap, _∙_}
-use Prim.Native.Nat.{_+_, _*_}
-use native.Mathlib.Omega.{arith}
 use denote.Ref.{now}
 use lib.ListN.{length}
 use borrow.Author.Needs.{needs}
@@ -29,42 +27,21 @@ returns-2 c =
       sym (sizes-ok-call .ensures) ∙ not-true _ (c .if2 .taken),
     )
 
-productions-requires : tie.Need-productions-requires
-productions-requires c κs = search needs
-
-wide-requires : tie.Need-wide-requires
-wide-requires c κs = search needs
-
-mul-if3 : tie.Need-mul-if3
-mul-if3 c = search needs
-
-add-if3 : tie.Need-add-if3
-add-if3 c = search needs
-
-symbols-requires : tie.Need-symbols-requires
-symbols-requires c κs = search needs
-
-wide-requires-2 : tie.Need-wide-requires-2
-wide-requires-2 c κs = search needs
-
-add-if3-2 : tie.Need-add-if3-2
-add-if3-2 c = search needs
+length-ok-requires : tie.Need-length-ok-requires
+length-ok-requires c κs = search needs
 
 returns-3 : tie.Need-returns-3
 unfolding formFault
 returns-3 c =
-    let args = c .before .before .before .before .before .before .before .before .before .args in
-    let if1 = c .before .before .before .before .before .before .before .if1 in
-    let sizes-ok-call = c .before .before .before .before .before .before .sizes-ok in
-    let if2 = c .before .before .before .before .before .if2 in
-    let wide-call = c .before .before .before .wide in
-    let wide2-call = c .before .wide2 in
-    let productions-call = c .before .before .before .before .productions in
-    let symbols-call = c .before .before .symbols in
+    let args = c .before .before .before .before .before .before .args in
+    let if1 = c .before .before .before .before .if1 in
+    let sizes-ok-call = c .before .before .before .sizes-ok in
+    let if2 = c .before .before .if2 in
+    let length-ok-call = c .before .length-ok in
     rw (
       le-leb 4 (length (now (args .c))) (if1 .left),
       sym (sizes-ok-call .ensures) ∙ not-false _ (if2 .left),
-      ne-eqb (length (now (args .c))) (4 + 2 * productions (now (args .c)) + symbols (now (args .c))) (λ e. c .if3 .taken (e ∙ (let z : 4 + 2 * productions (now (args .c)) + symbols (now (args .c)) ≡ 4 + 2 * wide-call .result + wide2-call .result = omega (arith, wide-call .ensures, wide2-call .ensures, productions-call .ensures, symbols-call .ensures) in z))),
+      sym (length-ok-call .ensures) ∙ not-true _ (c .if3 .taken),
     )
 
 lefts-ok-requires : tie.Need-lefts-ok-requires
@@ -73,31 +50,28 @@ lefts-ok-requires c κs = search needs
 returns-4 : tie.Need-returns-4
 unfolding formFault
 returns-4 c =
-    let args = c .before .before .before .before .before .before .before .before .before .before .before .args in
-    let if1 = c .before .before .before .before .before .before .before .before .before .if1 in
-    let sizes-ok-call = c .before .before .before .before .before .before .before .before .sizes-ok in
-    let if2 = c .before .before .before .before .before .before .before .if2 in
+    let args = c .before .before .before .before .before .before .before .before .args in
+    let if1 = c .before .before .before .before .before .before .if1 in
+    let sizes-ok-call = c .before .before .before .before .before .sizes-ok in
+    let if2 = c .before .before .before .before .if2 in
     let if3 = c .before .before .if3 in
-    let wide-call = c .before .before .before .before .before .wide in
-    let wide2-call = c .before .before .before .wide2 in
-    let productions-call = c .before .before .before .before .before .before .productions in
-    let symbols-call = c .before .before .before .before .symbols in
+    let length-ok-call = c .before .before .before .length-ok in
     let lefts-ok-call = c .before .lefts-ok in
     rw (
       le-leb 4 (length (now (args .c))) (if1 .left),
       sym (sizes-ok-call .ensures) ∙ not-false _ (if2 .left),
-      eq-eqb (length (now (args .c))) (4 + 2 * productions (now (args .c)) + symbols (now (args .c))) (if3 .left ∙ sym (let z : 4 + 2 * productions (now (args .c)) + symbols (now (args .c)) ≡ 4 + 2 * wide-call .result + wide2-call .result = omega (arith, wide-call .ensures, wide2-call .ensures, productions-call .ensures, symbols-call .ensures) in z)),
+      sym (length-ok-call .ensures) ∙ not-false _ (if3 .left),
       sym (lefts-ok-call .ensures) ∙ not-true _ (c .if4 .taken),
     )
 
-productions-requires-2 : tie.Need-productions-requires-2
-productions-requires-2 c κs = search needs
+productions-requires : tie.Need-productions-requires
+productions-requires c κs = search needs
 
 start-requires : tie.Need-start-requires
 start-requires c κs = search needs
 
-symbols-requires-2 : tie.Need-symbols-requires-2
-symbols-requires-2 c κs = search needs
+symbols-requires : tie.Need-symbols-requires
+symbols-requires c κs = search needs
 
 wider-requires : tie.Need-wider-requires
 wider-requires c κs = search needs
@@ -105,27 +79,24 @@ wider-requires c κs = search needs
 returns-5 : tie.Need-returns-5
 unfolding formFault
 returns-5 c =
-    let args = c .before .before .before .before .before .before .before .before .before .before .before .before .before .before .before .before .args in
-    let if1 = c .before .before .before .before .before .before .before .before .before .before .before .before .before .before .if1 in
-    let sizes-ok-call = c .before .before .before .before .before .before .before .before .before .before .before .before .before .sizes-ok in
-    let if2 = c .before .before .before .before .before .before .before .before .before .before .before .before .if2 in
+    let args = c .before .before .before .before .before .before .before .before .before .before .before .before .before .args in
+    let if1 = c .before .before .before .before .before .before .before .before .before .before .before .if1 in
+    let sizes-ok-call = c .before .before .before .before .before .before .before .before .before .before .sizes-ok in
+    let if2 = c .before .before .before .before .before .before .before .before .before .if2 in
     let if3 = c .before .before .before .before .before .before .before .if3 in
-    let wide-call = c .before .before .before .before .before .before .before .before .before .before .wide in
-    let wide2-call = c .before .before .before .before .before .before .before .before .wide2 in
-    let productions-call = c .before .before .before .before .before .before .before .before .before .before .before .productions in
-    let symbols-call = c .before .before .before .before .before .before .before .before .before .symbols in
+    let length-ok-call = c .before .before .before .before .before .before .before .before .length-ok in
     let lefts-ok-call = c .before .before .before .before .before .before .lefts-ok in
     let if4 = c .before .before .before .before .before .if4 in
     let start-call = c .before .before .before .start in
-    let productions2-call = c .before .before .before .before .productions2 in
+    let productions-call = c .before .before .before .before .productions in
     let wider-call = c .before .wider in
-    let symbols2-call = c .before .before .symbols2 in
+    let symbols-call = c .before .before .symbols in
     rw (
       le-leb 4 (length (now (args .c))) (if1 .left),
       sym (sizes-ok-call .ensures) ∙ not-false _ (if2 .left),
-      eq-eqb (length (now (args .c))) (4 + 2 * productions (now (args .c)) + symbols (now (args .c))) (if3 .left ∙ sym (let z : 4 + 2 * productions (now (args .c)) + symbols (now (args .c)) ≡ 4 + 2 * wide-call .result + wide2-call .result = omega (arith, wide-call .ensures, wide2-call .ensures, productions-call .ensures, symbols-call .ensures) in z)),
+      sym (length-ok-call .ensures) ∙ not-false _ (if3 .left),
       sym (lefts-ok-call .ensures) ∙ not-false _ (if4 .left),
-      ne-eqb (startOf (now (args .c)) (productions (now (args .c)))) (symbols (now (args .c))) (λ e. c .if5 .taken ((start-call .ensures ∙ ap (startOf (now (args .c))) (productions2-call .ensures)) ∙ e ∙ sym (wider-call .ensures ∙ symbols2-call .ensures))),
+      ne-eqb (startOf (now (args .c)) (productions (now (args .c)))) (symbols (now (args .c))) (λ e. c .if5 .taken ((start-call .ensures ∙ ap (startOf (now (args .c))) (productions-call .ensures)) ∙ e ∙ sym (wider-call .ensures ∙ symbols-call .ensures))),
     )
 
 rights-ok-requires : tie.Need-rights-ok-requires
@@ -134,59 +105,53 @@ rights-ok-requires c κs = search needs
 returns-6 : tie.Need-returns-6
 unfolding formFault
 returns-6 c =
-    let args = c .before .before .before .before .before .before .before .before .before .before .before .before .before .before .before .before .before .before .args in
-    let if1 = c .before .before .before .before .before .before .before .before .before .before .before .before .before .before .before .before .if1 in
-    let sizes-ok-call = c .before .before .before .before .before .before .before .before .before .before .before .before .before .before .before .sizes-ok in
-    let if2 = c .before .before .before .before .before .before .before .before .before .before .before .before .before .before .if2 in
+    let args = c .before .before .before .before .before .before .before .before .before .before .before .before .before .before .before .args in
+    let if1 = c .before .before .before .before .before .before .before .before .before .before .before .before .before .if1 in
+    let sizes-ok-call = c .before .before .before .before .before .before .before .before .before .before .before .before .sizes-ok in
+    let if2 = c .before .before .before .before .before .before .before .before .before .before .before .if2 in
     let if3 = c .before .before .before .before .before .before .before .before .before .if3 in
-    let wide-call = c .before .before .before .before .before .before .before .before .before .before .before .before .wide in
-    let wide2-call = c .before .before .before .before .before .before .before .before .before .before .wide2 in
-    let productions-call = c .before .before .before .before .before .before .before .before .before .before .before .before .before .productions in
-    let symbols-call = c .before .before .before .before .before .before .before .before .before .before .before .symbols in
+    let length-ok-call = c .before .before .before .before .before .before .before .before .before .before .length-ok in
     let lefts-ok-call = c .before .before .before .before .before .before .before .before .lefts-ok in
     let if4 = c .before .before .before .before .before .before .before .if4 in
     let start-call = c .before .before .before .before .before .start in
-    let productions2-call = c .before .before .before .before .before .before .productions2 in
+    let productions-call = c .before .before .before .before .before .before .productions in
     let if5 = c .before .before .if5 in
     let wider-call = c .before .before .before .wider in
-    let symbols2-call = c .before .before .before .before .symbols2 in
+    let symbols-call = c .before .before .before .before .symbols in
     let rights-ok-call = c .before .rights-ok in
     rw (
       le-leb 4 (length (now (args .c))) (if1 .left),
       sym (sizes-ok-call .ensures) ∙ not-false _ (if2 .left),
-      eq-eqb (length (now (args .c))) (4 + 2 * productions (now (args .c)) + symbols (now (args .c))) (if3 .left ∙ sym (let z : 4 + 2 * productions (now (args .c)) + symbols (now (args .c)) ≡ 4 + 2 * wide-call .result + wide2-call .result = omega (arith, wide-call .ensures, wide2-call .ensures, productions-call .ensures, symbols-call .ensures) in z)),
+      sym (length-ok-call .ensures) ∙ not-false _ (if3 .left),
       sym (lefts-ok-call .ensures) ∙ not-false _ (if4 .left),
-      eq-eqb (startOf (now (args .c)) (productions (now (args .c)))) (symbols (now (args .c))) (sym (start-call .ensures ∙ ap (startOf (now (args .c))) (productions2-call .ensures)) ∙ if5 .left ∙ (wider-call .ensures ∙ symbols2-call .ensures)),
+      eq-eqb (startOf (now (args .c)) (productions (now (args .c)))) (symbols (now (args .c))) (sym (start-call .ensures ∙ ap (startOf (now (args .c))) (productions-call .ensures)) ∙ if5 .left ∙ (wider-call .ensures ∙ symbols-call .ensures)),
       sym (rights-ok-call .ensures) ∙ not-true _ (c .if6 .taken),
     )
 
 returns-7 : tie.Need-returns-7
 unfolding formFault
 returns-7 c =
-    let args = c .before .before .before .before .before .before .before .before .before .before .before .before .before .before .before .before .before .before .args in
-    let if1 = c .before .before .before .before .before .before .before .before .before .before .before .before .before .before .before .before .if1 in
-    let sizes-ok-call = c .before .before .before .before .before .before .before .before .before .before .before .before .before .before .before .sizes-ok in
-    let if2 = c .before .before .before .before .before .before .before .before .before .before .before .before .before .before .if2 in
+    let args = c .before .before .before .before .before .before .before .before .before .before .before .before .before .before .before .args in
+    let if1 = c .before .before .before .before .before .before .before .before .before .before .before .before .before .if1 in
+    let sizes-ok-call = c .before .before .before .before .before .before .before .before .before .before .before .before .sizes-ok in
+    let if2 = c .before .before .before .before .before .before .before .before .before .before .before .if2 in
     let if3 = c .before .before .before .before .before .before .before .before .before .if3 in
-    let wide-call = c .before .before .before .before .before .before .before .before .before .before .before .before .wide in
-    let wide2-call = c .before .before .before .before .before .before .before .before .before .before .wide2 in
-    let productions-call = c .before .before .before .before .before .before .before .before .before .before .before .before .before .productions in
-    let symbols-call = c .before .before .before .before .before .before .before .before .before .before .before .symbols in
+    let length-ok-call = c .before .before .before .before .before .before .before .before .before .before .length-ok in
     let lefts-ok-call = c .before .before .before .before .before .before .before .before .lefts-ok in
     let if4 = c .before .before .before .before .before .before .before .if4 in
     let start-call = c .before .before .before .before .before .start in
-    let productions2-call = c .before .before .before .before .before .before .productions2 in
+    let productions-call = c .before .before .before .before .before .before .productions in
     let if5 = c .before .before .if5 in
     let wider-call = c .before .before .before .wider in
-    let symbols2-call = c .before .before .before .before .symbols2 in
+    let symbols-call = c .before .before .before .before .symbols in
     let rights-ok-call = c .before .rights-ok in
     let if6 = c .if6 in
     rw (
       le-leb 4 (length (now (args .c))) (if1 .left),
       sym (sizes-ok-call .ensures) ∙ not-false _ (if2 .left),
-      eq-eqb (length (now (args .c))) (4 + 2 * productions (now (args .c)) + symbols (now (args .c))) (if3 .left ∙ sym (let z : 4 + 2 * productions (now (args .c)) + symbols (now (args .c)) ≡ 4 + 2 * wide-call .result + wide2-call .result = omega (arith, wide-call .ensures, wide2-call .ensures, productions-call .ensures, symbols-call .ensures) in z)),
+      sym (length-ok-call .ensures) ∙ not-false _ (if3 .left),
       sym (lefts-ok-call .ensures) ∙ not-false _ (if4 .left),
-      eq-eqb (startOf (now (args .c)) (productions (now (args .c)))) (symbols (now (args .c))) (sym (start-call .ensures ∙ ap (startOf (now (args .c))) (productions2-call .ensures)) ∙ if5 .left ∙ (wider-call .ensures ∙ symbols2-call .ensures)),
+      eq-eqb (startOf (now (args .c)) (productions (now (args .c)))) (symbols (now (args .c))) (sym (start-call .ensures ∙ ap (startOf (now (args .c))) (productions-call .ensures)) ∙ if5 .left ∙ (wider-call .ensures ∙ symbols-call .ensures)),
       sym (rights-ok-call .ensures) ∙ not-false _ (if6 .left),
     )
 
@@ -197,19 +162,13 @@ form-fault-spec =
     returns
     sizes-ok-requires
     returns-2
-    productions-requires
-    wide-requires
-    mul-if3
-    add-if3
-    symbols-requires
-    wide-requires-2
-    add-if3-2
+    length-ok-requires
     returns-3
     lefts-ok-requires
     returns-4
-    productions-requires-2
+    productions-requires
     start-requires
-    symbols-requires-2
+    symbols-requires
     wider-requires
     returns-5
     rights-ok-requires

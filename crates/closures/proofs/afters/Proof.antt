@@ -4,6 +4,7 @@ use native.Mathlib.Omega.{arith}
 use denote.Ref.{now}
 use lib.ListN.{length, length-set}
 use borrow.Author.Needs.{needs}
+use Rattle.items.specs.Item.{setSize, itemLimit}
 use Rattle.closures.proofs.AfterLaws.{put-of, afters-start, afters-next, afters-more}
 use Rattle.closures.proofs.ClosureLaws.{Walk, walk-next}
 use Rattle.closures.proofs.NumberLaws.{after-most}
@@ -14,10 +15,10 @@ use Rattle.closures.proofs.afters.Statement.{statement}
 use Rattle.closures.proofs.afters.Tie as tie
 
 abbrev Inv-loop : tie.InvT-loop
-Inv-loop c w s a₀ i₀ a i = Walk s i × Afters c s i a × (length a ≡ 11)
+Inv-loop c w s a₀ i₀ a i = Walk s i × Afters c s i a × (length a ≡ setSize)
 
 abbrev μ-loop : tie.MeasureT-loop
-μ-loop c w s a₀ i₀ a i = 704 - i
+μ-loop c w s a₀ i₀ a i = itemLimit - i
 
 next-requires : tie.Need-next-requires Inv-loop μ-loop
 next-requires c κs = search needs
@@ -81,7 +82,7 @@ loop-again c =
 returns : tie.Need-returns Inv-loop μ-loop
 returns c =
     let loop = c .before .loop in
-    let e : loop .i ≡ 704 = omega (arith, c .loop-test .left, loop .inv .0 .most) in
+    let e : loop .i ≡ itemLimit = omega (arith, c .loop-test .left, loop .inv .0 .most) in
     rw e at (loop .inv .1)
 
 pub afters-spec : {M : Type 1} → statement M

@@ -3,6 +3,7 @@ use Prim.Native.Nat.{_-_, _≤_}
 use native.Mathlib.Omega.{arith}
 use denote.Ref.{now}
 use lib.ListN.{length, length-set}
+use Rattle.items.specs.Item.{itemLimit}
 use Rattle.closures.proofs.AreaLaws.{kept-same, kept-set}
 use Rattle.closures.proofs.FillLaws.{filled-more}
 use Rattle.closures.proofs.NumberLaws.{after-high}
@@ -11,10 +12,10 @@ use Rattle.closures.proofs.clear.Statement.{statement}
 use Rattle.closures.proofs.clear.Tie as tie
 
 abbrev Inv-loop : tie.InvT-loop
-Inv-loop c w₀ n i₀ w i = Filled c w i × (n ≤ i) × (i ≤ 704) × (length w ≡ length w₀) × Kept w₀ 704 w
+Inv-loop c w₀ n i₀ w i = Filled c w i × (n ≤ i) × (i ≤ itemLimit) × (length w ≡ length w₀) × Kept w₀ itemLimit w
 
 abbrev μ-loop : tie.MeasureT-loop
-μ-loop c w₀ n i₀ w i = 704 - i
+μ-loop c w₀ n i₀ w i = itemLimit - i
 
 loop-holds : tie.Need-loop-holds Inv-loop μ-loop
 loop-holds c =
@@ -52,7 +53,7 @@ same-length c =
 returns : tie.Need-returns Inv-loop μ-loop
 returns c =
     let loop = c .before .loop in
-    let e : loop .i ≡ 704 = omega arith in
+    let e : loop .i ≡ itemLimit = omega arith in
     (rw e at (loop .inv .0), loop .inv .4)
 
 pub clear-spec : {M : Type 1} → statement M

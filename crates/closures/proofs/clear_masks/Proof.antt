@@ -3,14 +3,16 @@ use native.Mathlib.Omega.{arith}
 use denote.Ref.{now}
 use lib.ListN.{length}
 use borrow.Author.Needs.{needs}
+use Rattle.closures.specs.Areas.{masksAt}
 use Rattle.closures.proofs.AreaLaws.{added}
 use Rattle.closures.proofs.MaskLaws.{Clearing, clearing-start, clearing-more, cleared}
 use Rattle.grammar.proofs.CardLaws.{well-formed}
+use Rattle.areas.specs.Areas.{wordsSize}
 use Rattle.closures.proofs.clear_masks.Statement.{statement}
 use Rattle.closures.proofs.clear_masks.Tie as tie
 
 abbrev Inv-loop : tie.InvT-loop
-Inv-loop c z₀ n x₀ z x = Clearing z₀ z x × (x ≤ n) × (n ≤ 124) × (8192 ≤ length z)
+Inv-loop c z₀ n x₀ z x = Clearing z₀ z x × (x ≤ n) × (n ≤ 124) × (wordsSize ≤ length z)
 
 abbrev μ-loop : tie.MeasureT-loop
 μ-loop c z₀ n x₀ z x = n - x
@@ -63,7 +65,7 @@ loop-again c =
     let loop = c .before .before .before .before .before .before .loop in
     let empty-call = c .before .before .before .empty in
     let store-call = c .before .before .store in (
-      clearing-more _ _ _ _ _ (loop .inv .0) (omega arith) (empty-call .ensures) (rw (store-call .ensures) (added _ (316 + loop .x) _ (search needs) (omega arith))) (store-call .kept .0),
+      clearing-more _ _ _ _ _ (loop .inv .0) (omega arith) (empty-call .ensures) (rw (store-call .ensures) (added _ (masksAt + loop .x) _ (search needs) (omega arith))) (store-call .kept .0),
       omega arith,
       loop .inv .2,
       rw (store-call .kept .0) (loop .inv .3),

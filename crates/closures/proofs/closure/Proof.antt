@@ -5,9 +5,10 @@ use native.Mathlib.Omega.{arith}
 use denote.Ref.{now}
 use lib.ListN.{getD}
 use borrow.Author.Needs.{needs}
+use Rattle.items.specs.Item.{itemLimit}
 use Rattle.closures.proofs.ClosureLaws.{Walk, walk-next, Closing, closing-start, closing-next, closing-skip, closing-take, closing-end}
 use Rattle.closures.proofs.NumberLaws.{after-most}
-use Rattle.closures.specs.Areas.{slot}
+use Rattle.closures.specs.Areas.{closuresAt, slot}
 use Rattle.grammar.proofs.CardLaws.{well-formed}
 use Rattle.grammar.specs.Card.{terminals, nonterminals}
 use Rattle.closures.proofs.closure.Statement.{statement}
@@ -17,7 +18,7 @@ abbrev Inv-loop : tie.InvT-loop
 Inv-loop c w z s t r₀ i₀ r i = Walk s i × Closing c z s i r
 
 abbrev μ-loop : tie.MeasureT-loop
-μ-loop c w z s t r₀ i₀ r i = 704 - i
+μ-loop c w z s t r₀ i₀ r i = itemLimit - i
 
 terminals-requires : tie.Need-terminals-requires Inv-loop μ-loop
 terminals-requires c κs = search needs
@@ -95,7 +96,7 @@ loop-again c =
       walk-next _ _ _ (next2-call .ensures),
       closing-next _ _ _ _ _ _
           (⊎-elim
-          (λ w. rw (w .4) (closing-take _ _ _ _ _ _ _ _ _ (pre .3 .closures) (loop .inv .1) (loop .inv .0 .here (loop-test .taken)) (pre .2 .filled _ (loop-test .taken)) (wider-call .ensures ∙ terminals-call .ensures) (w .0 .taken) (omega (arith, wider-call .ensures, terminals-call .ensures, w .0 .taken)) (w .2 .ensures ∙ ap (λ (k : ℕ). slot (now (args .z)) (256 + k)) (w .1 .ensures)) (w .3 .ensures)))
+          (λ w. rw (w .4) (closing-take _ _ _ _ _ _ _ _ _ (pre .3 .closures) (loop .inv .1) (loop .inv .0 .here (loop-test .taken)) (pre .2 .filled _ (loop-test .taken)) (wider-call .ensures ∙ terminals-call .ensures) (w .0 .taken) (omega (arith, wider-call .ensures, terminals-call .ensures, w .0 .taken)) (w .2 .ensures ∙ ap (λ (k : ℕ). slot (now (args .z)) (closuresAt + k)) (w .1 .ensures)) (w .3 .ensures)))
           (λ w. rw (w .1) (closing-skip _ _ _ _ _ _ _ (loop .inv .1) (pre .2 .filled _ (loop-test .taken)) (wider-call .ensures ∙ terminals-call .ensures) (w .0 .left)))
           (if1 .came))
           (next2-call .ensures),

@@ -6,6 +6,7 @@ use native.Mathlib.Omega.{arith}
 use denote.Ref.{now}
 use lib.ListN.{length, length-set}
 use borrow.Author.Needs.{needs}
+use Rattle.items.specs.Item.{itemLimit}
 use Rattle.closures.proofs.AreaLaws.{kept-same, kept-set, kept-then}
 use Rattle.closures.proofs.FillLaws.{added-first, filled-last}
 use Rattle.closures.proofs.NumberLaws.{bounds}
@@ -17,7 +18,7 @@ use Rattle.closures.proofs.fill.Statement.{statement}
 use Rattle.closures.proofs.fill.Tie as tie
 
 abbrev Inv-loop : tie.InvT-loop
-Inv-loop c w₀ p s₀ r₀ w s r = Filled c w (firstOf c r) × (s ≡ startOf c r) × (r ≤ p) × (704 ≤ length w) × (length w ≡ length w₀) × Kept w₀ 704 w
+Inv-loop c w₀ p s₀ r₀ w s r = Filled c w (firstOf c r) × (s ≡ startOf c r) × (r ≤ p) × (itemLimit ≤ length w) × (length w ≡ length w₀) × Kept w₀ itemLimit w
 
 abbrev μ-loop : tie.MeasureT-loop
 μ-loop c w₀ p s₀ r₀ w s r = p - r
@@ -96,7 +97,7 @@ loop-again c =
       omega arith,
       search needs,
       search needs,
-      kept-then (loop .inv .5) (fill-production-call .ensures .1) (le-refl 704),
+      kept-then (loop .inv .5) (fill-production-call .ensures .1) (le-refl itemLimit),
     )
 
 wide32-requires-2 : tie.Need-wide32-requires-2 Inv-loop μ-loop
@@ -202,7 +203,7 @@ returns c =
     let s : wide322-call .result + wide2-call .result ≡ loop .s + productions-call .result = omega (arith, wide322-call .ensures, wide2-call .ensures) in
     let f = added-first (now (args .c)) (loop .r) (productions-call .result) (loop .s) (wide322-call .result + wide2-call .result) wf (productions-call .ensures) n (loop .inv .1) s in
     let l : wide322-call .result + wide2-call .result ≤ 640 = f .1 in
-    (clear-call .ensures .0, kept-then (kept-set _ _ _ _ _ (loop .inv .5) (omega arith)) (clear-call .ensures .1) (le-refl 704))
+    (clear-call .ensures .0, kept-then (kept-set _ _ _ _ _ (loop .inv .5) (omega arith)) (clear-call .ensures .1) (le-refl itemLimit))
 
 pub fill-spec : {M : Type 1} → statement M
 fill-spec =

@@ -1,12 +1,13 @@
 use mathlib.Core.Path.{_≡_, refl, _∙_}
-use Prim.Native.Nat.{_+_, _-_, _≤_, _<_, zero-le}
+use Prim.Native.Nat.{_*_, _+_, _-_, _≤_, _<_, zero-le}
 use native.Mathlib.Omega.{arith}
 use denote.Ref.{now}
 use lib.ListN.{length}
 use borrow.Author.Needs.{needs}
+use Rattle.items.specs.Item.{setSize}
 use Rattle.closures.proofs.AreaLaws.{kept-same, kept-then, added}
 use Rattle.closures.proofs.LeadLaws.{closures-start, closures-more}
-use Rattle.closures.specs.Areas.{Kept, Closures, Added}
+use Rattle.closures.specs.Areas.{closuresAt, masksAt, Kept, Closures, Added}
 use Rattle.grammar.proofs.CardLaws.{well-formed}
 use Rattle.grammar.specs.Card.{nonterminals}
 use Rattle.sets.proofs.BitLaws.{one-shl}
@@ -14,7 +15,7 @@ use Rattle.closures.proofs.fill_closures.Statement.{statement}
 use Rattle.closures.proofs.fill_closures.Tie as tie
 
 abbrev Inv-loop : tie.InvT-loop
-Inv-loop c w z₀ n b j₀ z j = Closures c z j × (j ≤ n) × (length z ≡ length z₀) × Kept z₀ 3476 z
+Inv-loop c w z₀ n b j₀ z j = Closures c z j × (j ≤ n) × (length z ≡ length z₀) × Kept z₀ (masksAt * setSize) z
 
 abbrev μ-loop : tie.MeasureT-loop
 μ-loop c w z₀ n b j₀ z j = n - j
@@ -107,7 +108,7 @@ loop-again c =
     let led-call = c .before .before .before .before .before .before .before .led in
     let h : loop .j < nonterminals (now (args .c)) = omega (arith, wide-call .ensures, nonterminals-call .ensures) in
     let l : loop .j < 60 = omega (arith, wf .limits .nonterminals-to) in
-    let ad : Added (loop .z) (256 + loop .j) (firsts-call .result) (store-call .last .0) = rw (store-call .ensures) (added (loop .z) (256 + loop .j) (firsts-call .result) (search needs) (omega (arith, pre .3))) in (
+    let ad : Added (loop .z) (closuresAt + loop .j) (firsts-call .result) (store-call .last .0) = rw (store-call .ensures) (added (loop .z) (closuresAt + loop .j) (firsts-call .result) (search needs) (omega (arith, pre .3))) in (
       closures-more _ _ _ _ _ _ wf (loop .inv .0) (led-call .ensures) h (rw (one-shl 64 (loop .j) (omega arith)) at (firsts-call .ensures)) ad,
       omega arith,
       store-call .kept .0 ∙ loop .inv .2,

@@ -4,20 +4,22 @@ use native.Mathlib.Omega.{arith}
 use denote.Ref.{now}
 use lib.ListN.{length, getD}
 use borrow.Author.Needs.{needs}
+use Rattle.items.specs.Item.{itemLimit}
 use Rattle.closures.proofs.AreaLaws.{added}
 use Rattle.closures.proofs.MaskLaws.{masked-start, masked-more}
 use Rattle.closures.proofs.NumberLaws.{after-most}
-use Rattle.closures.specs.Areas.{Masked}
+use Rattle.closures.specs.Areas.{masksAt, Masked}
 use Rattle.grammar.proofs.CardLaws.{well-formed}
 use Rattle.grammar.specs.Card.{terminals, nonterminals}
+use Rattle.areas.specs.Areas.{wordsSize}
 use Rattle.closures.proofs.fill_masks.Statement.{statement}
 use Rattle.closures.proofs.fill_masks.Tie as tie
 
 abbrev Inv-loop : tie.InvT-loop
-Inv-loop c w z₀ i₀ z i = Masked c z₀ z i × (i ≤ 704) × (8192 ≤ length z)
+Inv-loop c w z₀ i₀ z i = Masked c z₀ z i × (i ≤ itemLimit) × (wordsSize ≤ length z)
 
 abbrev μ-loop : tie.MeasureT-loop
-μ-loop c w z₀ i₀ z i = 704 - i
+μ-loop c w z₀ i₀ z i = itemLimit - i
 
 loop-holds : tie.Need-loop-holds Inv-loop μ-loop
 loop-holds c =
@@ -101,7 +103,7 @@ loop-again c =
     let store-call = c .before .before .store in
     let l : getD (now (args .w)) (loop .i) 0 < terminals (now (args .c)) + nonterminals (now (args .c)) = rw (pre .2 .filled (loop .i) (loop-test .taken)) (after-most (now (args .c)) wf (loop .i)) in (
       masked-more _ _ _ _ _ _ _ _ (loop .inv .0) (loop .inv .2) (omega (arith, wf .limits .terminals-to, wf .limits .nonterminals-to)) (loop-test .taken) (wide32-call .ensures ∙ pre .2 .filled _ (loop-test .taken)) (omega (arith, wide32-call .ensures)) (load-call .ensures) (with-call .ensures)
-          (rw (store-call .ensures) (added _ (316 + wide32-call .result) _ (search needs) (omega (arith, wf .limits .terminals-to, wf .limits .nonterminals-to, wide32-call .ensures)))) (store-call .kept .0),
+          (rw (store-call .ensures) (added _ (masksAt + wide32-call .result) _ (search needs) (omega (arith, wf .limits .terminals-to, wf .limits .nonterminals-to, wide32-call .ensures)))) (store-call .kept .0),
       omega arith,
       rw (store-call .kept .0) (loop .inv .2),
     )
@@ -114,7 +116,7 @@ same-length c =
 returns : tie.Need-returns Inv-loop μ-loop
 returns c =
     let loop = c .before .loop in
-    let e : loop .i ≡ 704 = omega arith in
+    let e : loop .i ≡ itemLimit = omega arith in
     rw e at (loop .inv .0)
 
 pub fill-masks-spec : {M : Type 1} → statement M

@@ -5,6 +5,7 @@ use native.Mathlib.Omega.{arith}
 use denote.Ref.{now}
 use lib.ListN.{length, length-set}
 use borrow.Author.Needs.{needs}
+use Rattle.items.specs.Item.{itemLimit}
 use Rattle.closures.proofs.AreaLaws.{kept-same, kept-set}
 use Rattle.closures.proofs.FillLaws.{production-more, production-end}
 use Rattle.closures.proofs.NumberLaws.{bounds}
@@ -14,7 +15,7 @@ use Rattle.closures.proofs.fill_production.Statement.{statement}
 use Rattle.closures.proofs.fill_production.Tie as tie
 
 abbrev Inv-loop : tie.InvT-loop
-Inv-loop c w₀ r f s n i₀ w i = Filled c w (f + i) × (i ≤ n) × (length w ≡ length w₀) × Kept w₀ 704 w × (f + n < 640) × (s + n ≤ 512) × (704 ≤ length w₀)
+Inv-loop c w₀ r f s n i₀ w i = Filled c w (f + i) × (i ≤ n) × (length w ≡ length w₀) × Kept w₀ itemLimit w × (f + n < 640) × (s + n ≤ 512) × (itemLimit ≤ length w₀)
 
 abbrev μ-loop : tie.MeasureT-loop
 μ-loop c w₀ r f s n i₀ w i = n - i

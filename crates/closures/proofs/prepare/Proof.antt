@@ -2,6 +2,7 @@ use native.Mathlib.Nat.{le-refl}
 use native.Mathlib.Omega.{arith}
 use denote.Ref.{now}
 use borrow.Author.Needs.{needs}
+use Rattle.closures.specs.Areas.{slotsEnd}
 use Rattle.closures.proofs.AreaLaws.{kept-same, kept-then}
 use Rattle.closures.proofs.MaskLaws.{prepared-closures}
 use Rattle.grammar.proofs.CardLaws.{well-formed}
@@ -38,7 +39,7 @@ returns c =
         masks = fill-masks-call .ensures .masks;
         room = rw (fill-masks-call .kept .1 .1 .0, clear-masks-call .kept .1 .0, fill-closures-call .kept .1 .1 .0) (pre .3);
       },
-      kept-then (kept-then (kept-then (kept-same _ _) (fill-closures-call .ensures .1) (omega arith)) (clear-masks-call .ensures .behind) (le-refl 4840)) (fill-masks-call .ensures .behind) (le-refl 4840),
+      kept-then (kept-then (kept-then (kept-same _ _) (fill-closures-call .ensures .1) (omega arith)) (clear-masks-call .ensures .behind) (le-refl slotsEnd)) (fill-masks-call .ensures .behind) (le-refl slotsEnd),
     )
 
 pub prepare-spec : {M : Type 1} → statement M

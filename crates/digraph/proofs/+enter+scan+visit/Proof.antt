@@ -89,7 +89,7 @@ enter-returns : (t : ℕ) → enter-lts.Need-returns (enter-calls t) (enter-at t
 enter-returns t c =
     let a = c .before .before .before .before .before .before .before .before .before .before .before .before .before .before .before .args in
     let p = c .before .before .before .before .before .before .before .before .before .before .before .before .before .before .before .pre .1 in
-    let E = Edge (a .kind) (a .c .now) (a .w .now) (a .k) in
+    let E = Edge (a .relation) (a .c .now) (a .w .now) (a .k) in
     let s = c .before .before .before .before .before .before .scan in
     let f = c .before .before .finish in
     steps.entered (a .k) (a .z .now) (a .depth) (a .x) (p .0) (p .2) (p .3) (c .before .before .before .before .before .before .before .before .before .before .push .last .0) (c .before .before .before .before .before .before .before .before .before .before .push .ensures)
@@ -100,10 +100,10 @@ abbrev scan-calls : ℕ → scan-lts.Claims
 scan-calls t = (first-edge-reads.Asked, first-edge-reads.Learnt, next-edge-reads.Asked, next-edge-reads.Learnt, visit-below t, visit.Post, join-reads.Asked, join-reads.Learnt)
 
 abbrev scan-Inv-loop : scan-lts.InvT-loop
-scan-Inv-loop kind c w z₀ k x depth d₀ cursor₀ z d cursor = (length z ≡ length z₀) × Sound kind c w k x cursor × Scanned (Edge kind c w k) k z₀ depth x z d (Left kind c w k x cursor)
+scan-Inv-loop relation c w z₀ k x depth d₀ cursor₀ z d cursor = (length z ≡ length z₀) × Sound relation c w x cursor × Scanned (Edge relation c w k) k z₀ depth x z d (Left relation c w k x cursor)
 
 abbrev scan-μ-loop : scan-lts.MeasureT-loop
-scan-μ-loop kind c w z₀ k x depth d₀ cursor₀ z d cursor = room kind c w k x cursor
+scan-μ-loop relation c w z₀ k x depth d₀ cursor₀ z d cursor = room relation w x cursor
 
 scan-cast-first-edge : (t : ℕ) → scan-lts.Need-cast-first-edge (scan-calls t) (scan-at t) scan.Post scan-Inv-loop scan-μ-loop
 scan-cast-first-edge t c =
@@ -113,14 +113,14 @@ scan-cast-first-edge t c =
 scan-first-edge-requires : (t : ℕ) → scan-lts.Need-first-edge-requires (scan-calls t) (scan-at t) scan.Post scan-Inv-loop scan-μ-loop
 scan-first-edge-requires t c κs =
     let p = c .before .before .before .pre .1 in
-    record { nodes = c .before .before .before .args .k; ready = p .1; below = p .2 }
+    record { nodes = c .before .before .before .args .k; ordered = p .1; below = p .2 }
 
 scan-loop-holds : (t : ℕ) → scan-lts.Need-loop-holds (scan-calls t) (scan-at t) scan.Post scan-Inv-loop scan-μ-loop
 scan-loop-holds t c =
     let a = c .before .before .before .before .args in
     let p = c .before .before .before .before .pre .1 in
-    let E = Edge (a .kind) (a .c .now) (a .w .now) (a .k) in
-    let left = Left (a .kind) (a .c .now) (a .w .now) (a .k) (a .x) in
+    let E = Edge (a .relation) (a .c .now) (a .w .now) (a .k) in
+    let left = Left (a .relation) (a .c .now) (a .w .now) (a .k) (a .x) in
     let f = c .first-edge .ensures (a .k) (p .1) in
     let scanned = steps.scan-first E (a .k) (a .z .now) (a .depth) (a .x) (left (c .first-edge .result)) (p .0) (f .all) in
     (refl, f .sound, scanned)
@@ -133,7 +133,7 @@ scan-cast-next-edge t c =
 scan-next-edge-requires : (t : ℕ) → scan-lts.Need-next-edge-requires (scan-calls t) (scan-at t) scan.Post scan-Inv-loop scan-μ-loop
 scan-next-edge-requires t c κs =
     let p = c .before .before .before .before .before .pre .1 in
-    record { nodes = c .before .before .before .before .before .args .k; ready = p .1; below = p .2; sound = c .loop .inv .1 }
+    record { nodes = c .before .before .before .before .before .args .k; ordered = p .1; below = p .2; sound = c .loop .inv .1 }
 
 scan-cast-y : (t : ℕ) → scan-lts.Need-cast-y (scan-calls t) (scan-at t) scan.Post scan-Inv-loop scan-μ-loop
 scan-cast-y t c =
@@ -148,8 +148,8 @@ scan-visit-requires : (t : ℕ) → scan-lts.Need-visit-requires (scan-calls t) 
 scan-visit-requires t c κs =
     let a = c .before .before .before .before .before .before .before .before .before .args in
     let p = c .before .before .before .before .before .before .before .before .before .pre .1 in
-    let E = Edge (a .kind) (a .c .now) (a .w .now) (a .k) in
-    let left = Left (a .kind) (a .c .now) (a .w .now) (a .k) (a .x) in
+    let E = Edge (a .relation) (a .c .now) (a .w .now) (a .k) in
+    let left = Left (a .relation) (a .c .now) (a .w .now) (a .k) (a .x) in
     let l = c .before .before .before .before .loop in
     let f = c .before .before .before .next-edge .ensures (a .k) (p .1) in
     let h = f .here (c .before .before .if1 .taken) in
@@ -177,8 +177,8 @@ scan-loop-again : (t : ℕ) → scan-lts.Need-loop-again (scan-calls t) (scan-at
 scan-loop-again t c =
     let a = c .before .before .before .before .before .before .before .before .before .before .before .before .before .before .before .before .before .args in
     let p = c .before .before .before .before .before .before .before .before .before .before .before .before .before .before .before .before .before .pre .1 in
-    let E = Edge (a .kind) (a .c .now) (a .w .now) (a .k) in
-    let left = Left (a .kind) (a .c .now) (a .w .now) (a .k) (a .x) in
+    let E = Edge (a .relation) (a .c .now) (a .w .now) (a .k) in
+    let left = Left (a .relation) (a .c .now) (a .w .now) (a .k) (a .x) in
     let l = c .before .before .before .before .before .before .before .before .before .before .before .before .loop in
     let f = c .before .before .before .before .before .before .before .before .before .before .before .next-edge .ensures (a .k) (p .1) in
     let more = c .before .before .before .before .before .before .before .before .before .before .if1 .taken in
@@ -198,8 +198,8 @@ scan-returns : (t : ℕ) → scan-lts.Need-returns (scan-calls t) (scan-at t) sc
 scan-returns t c =
     let a = c .before .before .before .before .before .before .before .args in
     let p = c .before .before .before .before .before .before .before .pre .1 in
-    let E = Edge (a .kind) (a .c .now) (a .w .now) (a .k) in
-    let left = Left (a .kind) (a .c .now) (a .w .now) (a .k) (a .x) in
+    let E = Edge (a .relation) (a .c .now) (a .w .now) (a .k) in
+    let left = Left (a .relation) (a .c .now) (a .w .now) (a .k) (a .x) in
     let l = c .before .before .loop in
     let f = c .before .next-edge .ensures (a .k) (p .1) in
     steps.scan-last E (a .k) (a .z .now) (a .depth) (a .x) (left (l .cursor)) (l .z) (l .d) (l .inv .2) (f .none (c .if1 .left))
@@ -236,7 +236,7 @@ visit-returns :
     (t : ℕ) → visit-lts.Need-returns (enter-below t, enter.Post) (visit-at t) visit.Post
 visit-returns t c =
     let a = c .before .before .before .before .before .before .before .before .before .args in
-    let E = Edge (a .kind) (a .c .now) (a .w .now) (a .k) in
+    let E = Edge (a .relation) (a .c .now) (a .w .now) (a .k) in
     let n = c .before .before .enter in
     steps.visit-new E (a .k) (a .z .now) (a .depth) (a .y) (n .last .1 .1 .1 .0) (n .result) (n .ensures)
 
@@ -245,7 +245,7 @@ visit-returns-2 :
 visit-returns-2 t c =
     let a = c .before .before .before .before .before .args in
     let p = c .before .before .before .before .before .pre .1 in
-    let E = Edge (a .kind) (a .c .now) (a .w .now) (a .k) in
+    let E = Edge (a .relation) (a .c .now) (a .w .now) (a .k) in
     steps.visit-old E (a .k) (a .z .now) (a .depth) (a .y) (p .0) (p .2) (c .if1 .left)
 
 pub +enter+scan+visit-spec : {M : Type 1} → statement M

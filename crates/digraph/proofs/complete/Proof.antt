@@ -4,7 +4,9 @@ use mathlib.Core.Logic.{⊎-elim}
 use native.Mathlib.Omega.{arith}
 use Prim.Native.Nat.{ℕ, _-_, _≤_, _<_}
 use lib.ListN.{length}
+use Rattle.areas.specs.Areas.{wordsSize}
 use Rattle.relations.specs.Edge.{Edge}
+use Rattle.transitions.specs.Places.{shiftsAt}
 use Rattle.digraph.specs.Completion.{at}
 use Rattle.digraph.specs.Walk.{InvIn, numIn}
 use Rattle.digraph.proofs.Theory.{below-suc}
@@ -13,13 +15,13 @@ use Rattle.digraph.proofs.Steps as steps
 use Rattle.digraph.proofs.complete.Tie as tie
 
 abbrev Inv-loop : tie.InvT-loop
-Inv-loop kind c w z₀ k x₀ z x =
+Inv-loop relation c w z₀ k x₀ z x =
     (length z ≡ length z₀)
-    × ((start : ℕ → ℕ) → InvIn (Edge kind c w k) k start z₀ 0 → InvIn (Edge kind c w k) k start z 0)
-    × ((v : ℕ) → v < x → numIn z v ≡ 0 → ⊥) × ((i : ℕ) → 6144 ≤ i → at z i ≡ at z₀ i)
+    × ((start : ℕ → ℕ) → InvIn (Edge relation c w k) k start z₀ 0 → InvIn (Edge relation c w k) k start z 0)
+    × ((v : ℕ) → v < x → numIn z v ≡ 0 → ⊥) × ((i : ℕ) → shiftsAt ≤ i → at z i ≡ at z₀ i)
 
 abbrev μ-loop : tie.MeasureT-loop
-μ-loop kind c w z₀ k x₀ z x = k - x
+μ-loop relation c w z₀ k x₀ z x = k - x
 
 clear-requires : tie.Need-clear-requires Inv-loop μ-loop
 clear-requires c κs = (c .before .before .before .before .pre .1, c .before .before .before .before .pre .2)
@@ -31,7 +33,7 @@ visit-requires : tie.Need-visit-requires Inv-loop μ-loop
 visit-requires c κs =
     let p = c .before .before .before .before .before .before .before .before .before .before .pre in
     let l = c .before .before .loop in
-    let long : 8192 ≤ length (l .z) = omega (arith, p .2, c .before .before .before .before .before .clear .kept .0, l .inv .0) in
+    let long : wordsSize ≤ length (l .z) = omega (arith, p .2, c .before .before .before .before .before .clear .kept .0, l .inv .0) in
     (steps.empty-room (c .before .before .before .before .before .before .before .before .before .before .args .k) (l .z) (p .1) long, p .0, c .before .loop-test .taken)
 
 add-x : tie.Need-add-x Inv-loop μ-loop
@@ -43,7 +45,7 @@ loop-less c = omega (arith, c .before .before .before .before .loop-test .taken)
 loop-again : tie.Need-loop-again Inv-loop μ-loop
 loop-again c =
     let a = c .before .before .before .before .before .before .before .before .before .before .before .before .before .args in
-    let E = Edge (a .kind) (a .c .now) (a .w .now) (a .k) in
+    let E = Edge (a .relation) (a .c .now) (a .w .now) (a .k) in
     let l = c .before .before .before .before .before .loop in
     let i = l .inv in
     let v = c .before .before .visit in
@@ -63,7 +65,7 @@ returns : tie.Need-returns Inv-loop μ-loop
 returns c =
     let a = c .before .before .before .before .before .before .before .before .before .args in
     let p = c .before .before .before .before .before .before .before .before .before .pre in
-    let E = Edge (a .kind) (a .c .now) (a .w .now) (a .k) in
+    let E = Edge (a .relation) (a .c .now) (a .w .now) (a .k) in
     let l = c .before .loop in
     let i = l .inv in
     let r = c .before .before .before .before .clear in

@@ -4,6 +4,7 @@ use lib.ListN.{length-set, set}
 use mathlib.Core.Path.{ap, ap₂, _∙_}
 use Prim.Native.Nat.{_+_, min}
 use lib.Bits.{bitOr}
+use Rattle.transitions.specs.Places.{numbersAt}
 use Rattle.digraph.specs.Completion.{at}
 use borrow.Author.Needs.{needs}
 use Rattle.digraph.proofs.join.Statement.{statement}
@@ -67,7 +68,7 @@ returns c =
     let p = c .before .before .before .before .before .before .pre in
     let z = a .z .now in
     let joined = bitOr (at z (a .x)) (at z (a .y)) in
-    ap (set (set z (a .x) joined) (2048 + a .x))
+    ap (set (set z (a .x) joined) (numbersAt + a .x))
     (c .least .ensures ∙ ap₂ min (steps.num-set z (a .x) joined (a .x) (p .1)) (steps.num-set z (a .x) joined (a .y) (p .1)))
 
 pub join-spec : {M : Type 1} → statement M

@@ -4,6 +4,7 @@ use native.Mathlib.Omega.{arith}
 use lib.ListN.{length}
 use mathlib.Core.Path.{_≡_, refl, subst, _∙_}
 use Prim.Native.Nat.{ℕ, _≤_}
+use Rattle.areas.specs.Areas.{wordsSize}
 use Rattle.digraph.specs.Walk.{Popped}
 use Rattle.digraph.proofs.pop.Statement.{statement}
 use Rattle.digraph.proofs.Steps as steps
@@ -38,7 +39,7 @@ settle-requires c κs =
     let a = c .before .before .before .before .before .before .args in
     let p = c .before .before .before .before .before .before .pre in
     let l = c .before .before .before .before .loop in
-    let long : 8192 ≤ length (l .z) = omega (arith, l .inv .2) in
+    let long : wordsSize ≤ length (l .z) = omega (arith, l .inv .2) in
     let v = c .before .wide in
     let node = steps.pop-node (a .k) (l .d) (a .depth) (a .s) (a .z .now) (l .z) (p .4) (l .inv .3) (omega arith) (l .inv .1) (p .2) long (v .result) (v .ensures) in
     (long, omega arith)
@@ -51,7 +52,7 @@ loop-again c =
     let a = c .before .before .before .before .before .before .before .before .before .args in
     let p = c .before .before .before .before .before .before .before .before .before .pre in
     let l = c .before .before .before .before .before .before .before .loop in
-    let long : 8192 ≤ length (l .z) = omega (arith, l .inv .2) in
+    let long : wordsSize ≤ length (l .z) = omega (arith, l .inv .2) in
     let v = c .before .before .before .before .wide in
     let s = c .before .before .settle in
     let popped = steps.pop-more (a .k) (l .d) (a .depth) (a .s) (a .z .now) (l .z) (p .4) (l .inv .3) (omega arith) (l .inv .1) (p .2) long (v .result) (v .ensures) (s .last .0) (s .ensures) in

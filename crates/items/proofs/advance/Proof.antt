@@ -5,6 +5,7 @@ use mir.Syntax.{w64}
 use mir.Val.{Fits}
 use lib.ListN.{getD}
 use borrow.Author.Needs.{needs}
+use Rattle.items.specs.Item.{setSize}
 use Rattle.items.proofs.ShiftLaws.{Shifting, shift-start, shift-more, shifted}
 use Rattle.items.proofs.advance.Statement.{statement}
 use Rattle.items.proofs.advance.Tie as tie
@@ -13,7 +14,7 @@ abbrev Inv-loop : tie.InvT-loop
 Inv-loop s m t₀ carry₀ i₀ t carry i = Shifting s m t carry i
 
 abbrev μ-loop : tie.MeasureT-loop
-μ-loop s m t₀ carry₀ i₀ t carry i = 11 - i
+μ-loop s m t₀ carry₀ i₀ t carry i = setSize - i
 
 loop-holds : tie.Need-loop-holds Inv-loop μ-loop
 loop-holds c = shift-start _ _ _ refl
@@ -52,7 +53,7 @@ returns : tie.Need-returns Inv-loop μ-loop
 returns c =
     let args = c .before .before .args in
     let loop = c .before .loop in
-    let e : loop .i ≡ 11 = omega (arith, loop .inv .most) in
+    let e : loop .i ≡ setSize = omega (arith, loop .inv .most) in
     shifted (args .t1) (args .t2) _ (λ k. let f : Fits w64 (getD (args .t1) k 0) = search needs in f .fits) _ (rw e at (loop .inv))
 
 pub advance-spec : {M : Type 1} → statement M

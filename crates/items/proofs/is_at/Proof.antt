@@ -7,15 +7,16 @@ use mir.Val.{Fits}
 use lib.ListN.{length, getD}
 use borrow.Author.Count.{below-more}
 use borrow.Author.Needs.{needs}
+use Rattle.items.specs.Item.{setSize}
 use Rattle.items.proofs.AreaLaws.{not-same, is-same}
 use Rattle.items.proofs.is_at.Statement.{statement}
 use Rattle.items.proofs.is_at.Tie as tie
 
 abbrev Inv-loop : tie.InvT-loop
-Inv-loop d at s i₀ i = (i ≤ 11) × ((k : ℕ) → k < i → getD d (at + k) 0 ≡ getD s k 0)
+Inv-loop d at s i₀ i = (i ≤ setSize) × ((k : ℕ) → k < i → getD d (at + k) 0 ≡ getD s k 0)
 
 abbrev μ-loop : tie.MeasureT-loop
-μ-loop d at s i₀ i = 11 - i
+μ-loop d at s i₀ i = setSize - i
 
 loop-holds : tie.Need-loop-holds Inv-loop μ-loop
 loop-holds c = (search needs, λ k l. omega arith)
@@ -40,7 +41,7 @@ returns c =
     let args = c .before .before .before .before .args in
     let loop = c .before .before .before .loop in
     let known = c .before .shared-slice-known in
-    let room : args .at + 11 ≤ length (now (args .d)) = search needs in
+    let room : args .at + setSize ≤ length (now (args .d)) = search needs in
     not-same (now (args .d)) (args .at) (args .t1) room (search needs) (λ k. known .given (args .at + k) .fits)
     (λ k. let f : Fits w64 (getD (args .t1) k 0) = search needs in f .fits) (loop .i) (c .before .before .loop-test .taken) (c .if1 .taken)
 

@@ -6,14 +6,15 @@ use native.Mathlib.Omega.{arith}
 use lib.ListN.{length-drop, length, take, drop, length-set}
 use lib.Seq.{take-suc-set, take-suc, getD-drop, take-all}
 use borrow.Author.Needs.{needs}
+use Rattle.items.specs.Item.{setSize}
 use Rattle.items.proofs.load.Statement.{statement}
 use Rattle.items.proofs.load.Tie as tie
 
 abbrev Inv-loop : tie.InvT-loop
-Inv-loop d at t₀ i₀ t i = (i ≤ 11) × (length t ≡ 11) × (take i t ≡ take i (drop at d))
+Inv-loop d at t₀ i₀ t i = (i ≤ setSize) × (length t ≡ setSize) × (take i t ≡ take i (drop at d))
 
 abbrev μ-loop : tie.MeasureT-loop
-μ-loop d at t₀ i₀ t i = 11 - i
+μ-loop d at t₀ i₀ t i = setSize - i
 
 loop-holds : tie.Need-loop-holds Inv-loop μ-loop
 loop-holds c = (search needs, refl, refl)
@@ -54,8 +55,8 @@ loop-again c =
 
 returns : tie.Need-returns Inv-loop μ-loop
 returns c =
-    let e : c .before .loop .i ≡ 11 = omega arith in
-    sym (take-all 11 (c .before .loop .t) (omega arith)) ∙ rw e at (c .before .loop .inv .2)
+    let e : c .before .loop .i ≡ setSize = omega arith in
+    sym (take-all setSize (c .before .loop .t) (omega arith)) ∙ rw e at (c .before .loop .inv .2)
 
 pub load-spec : {M : Type 1} → statement M
 load-spec =

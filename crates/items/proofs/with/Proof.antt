@@ -6,7 +6,7 @@ use lib.Bits.{bitOr}
 use lib.ListN.{length, getD, set}
 use borrow.Author.Needs.{needs}
 use Rattle.items.proofs.ItemLaws.{item-put}
-use Rattle.items.specs.Item.{item, put}
+use Rattle.items.specs.Item.{setSize, item, put}
 use Rattle.sets.proofs.BitLaws.{one-shl}
 use Rattle.items.proofs.with.Statement.{statement}
 use Rattle.items.proofs.with.Tie as tie
@@ -33,7 +33,7 @@ array-write-t c = search needs
 returns : tie.Need-returns
 returns c =
     let e = sized (c .args .s) (c .args .i) in
-    let l : length (c .args .s) ≡ 11 = search needs in
+    let l : length (c .args .s) ≡ setSize = search needs in
     record { words = e; items = λ k. ap (λ (ws : List ℕ). item ws k) e ∙ item-put (c .args .s) (c .args .i) k (omega arith) }
 
 pub with-spec : {M : Type 1} → statement M

@@ -30,14 +30,12 @@ add-width c = omega (arith, c .before .before .at .ensures .1, c .before .at2 .e
 at-requires-4 : tie.Need-at-requires-4 Inv-loop μ-loop
 at-requires-4 c κs = search needs
 
-mul-from : tie.Need-mul-from Inv-loop μ-loop
-mul-from c = omega (arith, c .at4 .ensures .1)
-
-add-from : tie.Need-add-from Inv-loop μ-loop
-add-from c = omega (arith, c .at4 .ensures .1)
+cells-at-requires : tie.Need-cells-at-requires Inv-loop μ-loop
+cells-at-requires c κs = omega (arith, c .at4 .ensures .1)
 
 loop-holds : tie.Need-loop-holds Inv-loop μ-loop
-loop-holds c = rows-start _ _ _ _ _ _ _ (c .before .before .before .at .ensures) (c .before .before .at2 .ensures) (c .before .at3 .ensures) (c .at4 .ensures)
+loop-holds c =
+    rows-start _ _ _ _ _ _ _ _ (c .before .before .before .before .at .ensures) (c .before .before .before .at2 .ensures) (c .before .before .at3 .ensures) (c .before .at4 .ensures) (c .cells-at .ensures)
 
 add-row : tie.Need-add-row Inv-loop μ-loop
 add-row c = omega arith
@@ -45,8 +43,8 @@ add-row c = omega arith
 row-requires : tie.Need-row-requires Inv-loop μ-loop
 row-requires c κs = search needs
 
-add-from-2 : tie.Need-add-from-2 Inv-loop μ-loop
-add-from-2 c = omega arith
+add-from : tie.Need-add-from Inv-loop μ-loop
+add-from c = omega arith
 
 add-q : tie.Need-add-q Inv-loop μ-loop
 add-q c = omega arith
@@ -74,12 +72,11 @@ rows-spec =
     at-requires-3
     add-width
     at-requires-4
-    mul-from
-    add-from
+    cells-at-requires
     loop-holds
     add-row
     row-requires
-    add-from-2
+    add-from
     add-q
     loop-less
     loop-again

@@ -1,67 +1,46 @@
 -- `table` meets its contract: its lines are written one behind the other.
+use native.Mathlib.Omega.{arith}
 use Rattle.decimal.proofs.Written.{page-used}
 use Rattle.listing.proofs.Lines.{table-done}
 use borrow.Author.Needs.{needs}
 use Rattle.listing.proofs.table.Statement.{statement}
 use Rattle.listing.proofs.table.Tie as tie
 
-at-requires : tie.Need-at-requires
-at-requires c κs = search needs
+length-at-requires : tie.Need-length-at-requires
+length-at-requires c κs = omega (arith, c .before .at .ensures .1)
 
-slice-aggregate-line : tie.Need-slice-aggregate-line
-slice-aggregate-line c = search needs
-
-line-requires : tie.Need-line-requires
-line-requires c κs = search needs
-
-slice-aggregate-line-2 : tie.Need-slice-aggregate-line-2
-slice-aggregate-line-2 c = search needs
-
-add-line : tie.Need-add-line
-add-line c = search needs
-
-line-requires-2 : tie.Need-line-requires-2
-line-requires-2 c κs = search needs
-
-slice-aggregate-line-3 : tie.Need-slice-aggregate-line-3
-slice-aggregate-line-3 c = search needs
-
-add-line-2 : tie.Need-add-line-2
-add-line-2 c = search needs
-
-mul-line : tie.Need-mul-line
-mul-line c = search needs
-
-add-line-3 : tie.Need-add-line-3
-add-line-3 c = search needs
-
-line-requires-3 : tie.Need-line-requires-3
-line-requires-3 c κs = search needs
-
-rows-requires : tie.Need-rows-requires
-rows-requires c κs = search needs
-
-same-length : tie.Need-same-length
-same-length c = search needs
+header-size-requires : tie.Need-header-size-requires
+header-size-requires c κs =
+    let b14 = c .before .before .before .before .before .before .before .before .before .before .before .before .before .before in
+    omega (arith, b14 .at .ensures .1)
 
 returns : tie.Need-returns
-returns c = let e = table-done _ _ _ _ _ _ _ (c .before .before .before .before .before .before .before .before .before .before .before .before .before .before .before .before .before .before .before .at .ensures .0) (c .before .before .before .before .before .before .before .before .before .before .before .before .before .before .before .before .line .ensures) (c .before .before .before .before .before .before .before .before .before .before .before .line2 .ensures) (c .before .before .before .before .before .before .line3 .ensures) (c .before .before .rows .ensures) in (e, page-used _ _ _ _ e)
+returns c =
+    let b2 = c .before .before in
+    let b6 = b2 .before .before .before .before in
+    let b7 = b6 .before in
+    let b12 = b7 .before .before .before .before .before in
+    let b17 = b12 .before .before .before .before .before in
+    let b20 = b17 .before .before .before in
+    let b21 = b20 .before in
+    let b22 = b21 .before in
+    let e = table-done _ _ _ _ _ _ _ _ _ _ (b22 .at .ensures .0) (b21 .left-at .ensures) (b20 .length-at .ensures) (b7 .header-size .ensures) (b17 .line .ensures) (b12 .line2 .ensures) (b6 .line3 .ensures) (b2 .rows .ensures) in
+    (e, page-used _ _ _ _ e)
 
 pub table-spec : {M : Type 1} → statement M
 table-spec =
     tie.close
     (tie.spec
-    at-requires
-    slice-aggregate-line
-    line-requires
-    slice-aggregate-line-2
-    add-line
-    line-requires-2
-    slice-aggregate-line-3
-    add-line-2
-    mul-line
-    add-line-3
-    line-requires-3
-    rows-requires
-    same-length
+    (λ c κs. search needs)
+    (λ c κs. search needs)
+    length-at-requires
+    (λ c. search needs)
+    (λ c κs. search needs)
+    (λ c. search needs)
+    (λ c κs. search needs)
+    (λ c. search needs)
+    header-size-requires
+    (λ c κs. search needs)
+    (λ c κs. search needs)
+    (λ c. search needs)
     returns)

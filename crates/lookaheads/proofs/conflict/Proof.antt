@@ -1,19 +1,11 @@
-use mathlib.Core.Path.{_∙_}
+use mathlib.Core.Path.{ap, _∙_}
 use native.Mathlib.Omega.{arith}
+use Rattle.areas.specs.Areas.{rowOf}
 use Rattle.lookaheads.proofs.LookLaws.{few}
 use Rattle.lookaheads.proofs.RowLaws.{cell-at, conflict-named}
 use borrow.Author.Needs.{needs}
 use Rattle.lookaheads.proofs.conflict.Statement.{statement}
 use Rattle.lookaheads.proofs.conflict.Tie as tie
-
-productions-requires : tie.Need-productions-requires
-productions-requires c κs = search needs
-
-wide-requires : tie.Need-wide-requires
-wide-requires c κs = search needs
-
-wider-requires : tie.Need-wider-requires
-wider-requires c κs = search needs
 
 candidates-requires : tie.Need-candidates-requires
 candidates-requires c κs =
@@ -27,29 +19,21 @@ words-requires c κs =
     (b8 .pre .0, omega (arith, b1 .wider .ensures, b8 .pre .1), b8 .pre .2, λ k o. c .candidates .ensures _ k o (b8 .pre .3))
 
 row-requires : tie.Need-row-requires
-row-requires c κs = c .before .before .before .before .before .before .before .before .before .pre .4
-
-wide-requires-2 : tie.Need-wide-requires-2
-wide-requires-2 c κs = search needs
+row-requires c κs = rw (c .wide2 .ensures) (c .before .before .before .before .before .before .before .before .before .before .pre .4)
 
 add-at : tie.Need-add-at
 add-at c =
     let b1 = c .before in
-    let b11 = b1 .before .before .before .before .before .before .before .before .before .before in
-    let e = b1 .row .ensures in omega (arith, e, b11 .pre .4)
-
-at-requires : tie.Need-at-requires
-at-requires c κs = search needs
-
-wider-requires-2 : tie.Need-wider-requires-2
-wider-requires-2 c κs = search needs
+    let b2 = b1 .before in
+    let b12 = b2 .before .before .before .before .before .before .before .before .before .before in
+    omega (arith, b1 .row .ensures ∙ ap (rowOf _) (b2 .wide2 .ensures), b12 .pre .4)
 
 pair-requires : tie.Need-pair-requires
 pair-requires c κs =
-    let b8 = c .before .before .before .before .before .before .before .before in
-    let b9 = b8 .before in
-    let b14 = b9 .before .before .before .before .before in
-    rw (b8 .wide .ensures, b9 .productions .ensures) (few _ _ _ (b14 .pre .0 .1))
+    let b9 = c .before .before .before .before .before .before .before .before .before in
+    let b10 = b9 .before in
+    let b15 = b10 .before .before .before .before .before in
+    rw (b9 .wide .ensures, b10 .productions .ensures) (few _ _ _ (b15 .pre .0 .1))
 
 returns : tie.Need-returns
 returns c =
@@ -58,26 +42,29 @@ returns c =
     let b4 = b3 .before in
     let b5 = b4 .before in
     let b6 = b5 .before in
-    let b8 = b6 .before .before in
-    let b9 = b8 .before in
+    let b7 = b6 .before in
+    let b9 = b7 .before .before in
     let b10 = b9 .before in
-    let b15 = b10 .before .before .before .before .before in
+    let b11 = b10 .before in
+    let b16 = b11 .before .before .before .before .before in
     λ n k next o numbered below e two.
-    conflict-named _ _ _ n k next _ _ _ _ _ _ _ _ _ numbered below (b8 .wider .ensures) (b1 .wider2 .ensures) (b9 .wide .ensures ∙ b10 .productions .ensures) (b3 .at .ensures ∙ cell-at (b15 .args .t .now) (b5 .row .ensures) (b4 .wide2 .ensures) ∙ e) (b6 .words .ensures .1 k o) (c .pair .ensures) two
+    conflict-named _ _ _ n k next _ _ _ _ _ _ _ _ _ numbered below (b9 .wider .ensures) (b1 .wider2 .ensures) (b10 .wide .ensures ∙ b11 .productions .ensures)
+    (b3 .at .ensures ∙ cell-at (b16 .args .t .now) (b5 .row .ensures ∙ ap (rowOf _) (b6 .wide2 .ensures)) (b4 .wide3 .ensures) ∙ e) (b7 .words .ensures .1 k o) (c .pair .ensures) two
 
 pub conflict-spec : {M : Type 1} → statement M
 conflict-spec =
     tie.close
     (tie.spec
-    productions-requires
-    wide-requires
-    wider-requires
+    (λ c κs. search needs)
+    (λ c κs. search needs)
+    (λ c κs. search needs)
     candidates-requires
     words-requires
+    (λ c κs. search needs)
     row-requires
-    wide-requires-2
+    (λ c κs. search needs)
     add-at
-    at-requires
-    wider-requires-2
+    (λ c κs. search needs)
+    (λ c κs. search needs)
     pair-requires
     returns)

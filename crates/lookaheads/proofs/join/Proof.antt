@@ -24,4 +24,4 @@ returns-2 c = λ d k o. joins-none d _ _ k _ _ _ _ _ o (c .before .wide32 .ensur
 pub join-spec : {M : Type 1} → statement M
 join-spec =
     tie.close
-    (tie.spec index-requires wide32-requires mul-result shared-slice-read-result returns returns-2)
+    (tie.spec index-requires wide32-requires (λ c. search needs) mul-result shared-slice-read-result returns returns-2)

@@ -1,13 +1,14 @@
 use Prim.Native.Nat.{ℕ, _-_, _≤_}
-use mathlib.Core.Path.{sym, _∙_, subst}
+use mathlib.Core.Path.{sym, ap, _∙_, subst}
 use mathlib.Core.Logic.{⊎-elim}
 use native.Mathlib.Omega.{arith}
 use borrow.Author.Needs.{needs}
-use Rattle.lookaheads.proofs.RowLaws.{row-fits, row-room, Clear, clear-more, lowest-most, known, rows-none, rows-more, row-as, Crossed, crossed, searched-met, searched-free}
+use Rattle.lookaheads.proofs.RowLaws.{row-fits, row-room, Clear, clear-zero, clear-below, clear-more, known, rows-none, rows-more, row-as, Crossed, crossed, searched-met, searched-free}
 use Rattle.transitions.specs.Data.{Ordered}
 use Rattle.lookaheads.proofs.LookLaws.{few, live-as}
 use Rattle.lookaheads.specs.Outcome.{Stands, Rows}
 use Rattle.grammar.specs.Card.{terminals}
+use Rattle.areas.specs.Areas.{rowOf}
 use Rattle.lookaheads.proofs.rows.Statement.{statement}
 use Rattle.lookaheads.proofs.rows.Tie as tie
 
@@ -72,14 +73,8 @@ meeting-requires c κs =
     let many = b10 .wide .ensures ∙ b11 .productions .ensures in
     (omega (arith, many, few _ _ _ (b17 .pre .0 .ordered)), live-as _ _ _ _ many (b3 .words .ensures .0))
 
-lowest-requires : tie.Need-lowest-requires Inv-loop μ-loop Inv-states μ-states
-lowest-requires c κs = search needs
-
-cast-m : tie.Need-cast-m Inv-loop μ-loop Inv-states μ-states
-cast-m c = omega (arith, lowest-most (c .lowest .ensures))
-
 loop-holds : tie.Need-loop-holds Inv-loop μ-loop Inv-states μ-states
-loop-holds c = c .lowest .ensures .least
+loop-holds c = λ i h. absurd (omega arith)
 
 wider-requires-2 : tie.Need-wider-requires-2 Inv-loop μ-loop Inv-states μ-states
 wider-requires-2 c κs = search needs
@@ -98,36 +93,37 @@ loop-again c =
     let b1 = c .before in
     let b2 = b1 .before in
     let b4 = b2 .before .before in
-    clear-more _ _ _ _ (b2 .wider2 .ensures) (b1 .has .ensures) (c .if1 .left) (b4 .loop .inv)
+    clear-more _ _ _ _ (b2 .wider2 .ensures) (b1 .has .ensures) (c .if2 .left) (b4 .loop .inv)
 
 row-requires : tie.Need-row-requires Inv-loop μ-loop Inv-states μ-states
 row-requires c κs =
-    let b11 = c .before .before .before .before .before .before .before .before .before .before .before in
-    let b22 = b11 .before .before .before .before .before .before .before .before .before .before .before in
-    row-fits _ _ _ (b22 .pre .0 .ordered) _ (omega (arith, b11 .states-test .taken, b22 .pre .0 .numbered .most))
+    let b10 = c .before .before .before .before .before .before .before .before .before .before in
+    let b21 = b10 .before .before .before .before .before .before .before .before .before .before .before in
+    rw (c .wide2 .ensures) (row-fits _ _ _ (b21 .pre .0 .ordered) _ (omega (arith, b10 .states-test .taken, b21 .pre .0 .numbered .most)))
 
 write-requires : tie.Need-write-requires Inv-loop μ-loop Inv-states μ-states
 write-requires c κs =
     let b1 = c .before in
-    let b10 = b1 .before .before .before .before .before .before .before .before .before in
-    let b13 = b10 .before .before .before in
-    let b14 = b13 .before in
-    let b17 = b14 .before .before .before in
-    let b18 = b17 .before in
-    let b24 = b18 .before .before .before .before .before .before in
-    let many = b17 .wide .ensures ∙ b18 .productions .ensures in
-    let e = b1 .row .ensures in
-    let o = b24 .pre .0 .ordered in (
+    let b2 = b1 .before in
+    let b9 = b2 .before .before .before .before .before .before .before in
+    let b12 = b9 .before .before .before in
+    let b13 = b12 .before in
+    let b16 = b13 .before .before .before in
+    let b17 = b16 .before in
+    let b23 = b17 .before .before .before .before .before .before in
+    let many = b16 .wide .ensures ∙ b17 .productions .ensures in
+    let e = b1 .row .ensures ∙ ap (rowOf _) (b2 .wide2 .ensures) in
+    let o = b23 .pre .0 .ordered in (
       omega (arith, many, few _ _ _ o),
-      omega (arith, e, row-room _ _ _ o (b14 .states .q) (omega (arith, b13 .states-test .taken, b24 .pre .0 .numbered .most)), b14 .states .inv .1 _ o .long, b24 .pre .0 .table-long),
-      live-as _ _ _ _ many (b10 .words .ensures .0),
+      omega (arith, e, row-room _ _ _ o (b13 .states .q) (omega (arith, b12 .states-test .taken, b23 .pre .0 .numbered .most)), b13 .states .inv .1 _ o .long, b23 .pre .0 .table-long),
+      live-as _ _ _ _ many (b9 .words .ensures .0),
     )
 
 add-q : tie.Need-add-q Inv-loop μ-loop Inv-states μ-states
 add-q c =
-    let b16 = c .before .before .before .before .before .before .before .before .before .before .before .before .before .before .before .before in
-    let b27 = b16 .before .before .before .before .before .before .before .before .before .before .before in
-    omega (arith, b16 .states-test .taken, b27 .fits .n)
+    let b15 = c .before .before .before .before .before .before .before .before .before .before .before .before .before .before .before in
+    let b26 = b15 .before .before .before .before .before .before .before .before .before .before .before in
+    omega (arith, b15 .states-test .taken, b26 .fits .n)
 
 states-less : tie.Need-states-less Inv-loop μ-loop Inv-states μ-states
 states-less c = search needs
@@ -136,34 +132,35 @@ states-again : tie.Need-states-again Inv-loop μ-loop Inv-states μ-states
 states-again c =
     let b2 = c .before .before in
     let b4 = b2 .before .before in
-    let b6 = b4 .before .before in
-    let b7 = b6 .before in
-    let b9 = b7 .before .before in
-    let b11 = b9 .before .before in
+    let b5 = b4 .before in
+    let b7 = b5 .before .before in
+    let b8 = b7 .before in
+    let b10 = b8 .before .before in
+    let b11 = b10 .before in
     let b12 = b11 .before in
-    let b13 = b12 .before in
-    let b15 = b13 .before .before in
+    let b14 = b12 .before .before in
+    let b15 = b14 .before in
     let b16 = b15 .before in
     let b17 = b16 .before in
-    let b18 = b17 .before in
-    let b20 = b18 .before .before in
+    let b19 = b17 .before .before in
+    let b20 = b19 .before in
     let b21 = b20 .before in
-    let b22 = b21 .before in
-    let b27 = b22 .before .before .before .before .before in
-    let many = b20 .wide .ensures ∙ b21 .productions .ensures in (
+    let b26 = b21 .before .before .before .before .before in
+    let many = b19 .wide .ensures ∙ b20 .productions .ensures in
+    let none : Clear (b8 .meeting .result) (terminals (b26 .args .c .now)) =
+    ⊎-elim (λ w. clear-below _ _ _ (omega (arith, w .2 .left, b21 .terminals .ensures)) (w .1 .inv)) (λ w. clear-zero _ _ (w .0 .left)) (b7 .if1 .came) in (
       omega arith,
       λ k o.
-          rows-more _ _ _ _ _ k (b27 .pre .0) o _ _ (b17 .states .inv .1 k o) (b16 .states-test .taken) _ _ _ _
-          (known _ _ _ _ _ k (b27 .pre .0) o _ _ _ _ _ _ _ _ (b16 .states-test .taken) (b15 .wider .ensures) (b18 .target .ensures) many (b11 .shifts .ensures)
-          (b13 .words .ensures .1 k o) (b12 .acceptance .ensures) (b9 .meeting .ensures)) _ _ _ _ (b4 .row .ensures) many
-          (omega (arith, b6 .loop-test .left, b22 .terminals .ensures)) (b7 .loop .inv) (b2 .write .ensures),
+          rows-more _ _ _ _ _ k (b26 .pre .0) o _ _ (b16 .states .inv .1 k o) (b15 .states-test .taken) _ _ _ _
+          (known _ _ _ _ _ k (b26 .pre .0) o _ _ _ _ _ _ _ _ (b15 .states-test .taken) (b14 .wider .ensures) (b17 .target .ensures) many (b10 .shifts .ensures)
+          (b12 .words .ensures .1 k o) (b11 .acceptance .ensures) (b8 .meeting .ensures)) _ _ _ (b4 .row .ensures ∙ ap (rowOf _) (b5 .wide2 .ensures)) many none (b2 .write .ensures),
     )
 
 conflict-requires : tie.Need-conflict-requires Inv-loop μ-loop Inv-states μ-states
 conflict-requires c κs =
     let b1 = c .before in
     let b13 = b1 .before .before .before .before .before .before .before .before .before .before .before .before in
-    ((_, b13 .pre .0 .ordered), omega (arith, b1 .if2 .taken, b13 .pre .0 .numbered .most), omega (arith, b13 .pre .0 .words-long), b13 .pre .1, row-fits _ _ _ (b13 .pre .0 .ordered) _ (omega (arith, b1 .if2 .taken, b13 .pre .0 .numbered .most)))
+    ((_, b13 .pre .0 .ordered), omega (arith, b1 .if3 .taken, b13 .pre .0 .numbered .most), omega (arith, b13 .pre .0 .words-long), b13 .pre .1, row-fits _ _ _ (b13 .pre .0 .ordered) _ (omega (arith, b1 .if3 .taken, b13 .pre .0 .numbered .most)))
 
 same-length : tie.Need-same-length Inv-loop μ-loop Inv-states μ-states
 same-length c =
@@ -185,7 +182,7 @@ returns c =
     let a = b14 .args in
     λ k o.
     let x : Crossed (Stands (a .c .now) (a .t .now) (a .w .now) (a .z .now) (a .n) k) (a .n) (terminals (a .c .now)) (b4 .states .q) (b3 .states-test .m) =
-    ⊎-elim (λ w. absurd (omega (arith, w .0 .left, b2 .if2 .taken)))
+    ⊎-elim (λ w. absurd (omega (arith, w .0 .left, b2 .if3 .taken)))
     (λ w.
     subst (Crossed (Stands (a .c .now) (a .t .now) (a .w .now) (a .z .now) (a .n) k) (a .n) (terminals (a .c .now)) (b4 .states .q)) (sym (w .14))
     (crossed _ _ _ _ _ k (b14 .pre .0) o _ _ (b4 .states .inv .1 k o) (w .0 .taken) _ _ _ _
@@ -195,7 +192,7 @@ returns c =
     in
     searched-met _ _ _ _ _ k (b14 .pre .0) o _ _ _ _ (b4 .states .inv .1 k o) x
     (c .conflict .ensures _ k _ o (b14 .pre .0 .numbered) (x .terminal)
-    (row-as _ _ _ _ _ k (b14 .pre .0) o _ _ (b4 .states .inv .1 k o) (b2 .if2 .taken) _ (omega (arith, x .terminal))) (x .two))
+    (row-as _ _ _ _ _ k (b14 .pre .0) o _ _ (b4 .states .inv .1 k o) (b2 .if3 .taken) _ (omega (arith, x .terminal))) (x .two))
 
 same-length-2 : tie.Need-same-length-2 Inv-loop μ-loop Inv-states μ-states
 same-length-2 c =
@@ -207,7 +204,7 @@ returns-2 : tie.Need-returns-2 Inv-loop μ-loop Inv-states μ-states
 returns-2 c =
     let b2 = c .before .before in
     let b12 = b2 .before .before .before .before .before .before .before .before .before .before in
-    λ k o. searched-free _ _ _ _ _ k (b12 .pre .0) o _ _ (b2 .states .inv .0) (c .if2 .left) (b2 .states .inv .1 k o)
+    λ k o. searched-free _ _ _ _ _ k (b12 .pre .0) o _ _ (b2 .states .inv .0) (c .if3 .left) (b2 .states .inv .1 k o)
 
 pub rows-spec : {M : Type 1} → statement M
 rows-spec =
@@ -228,14 +225,13 @@ rows-spec =
     acceptance-requires
     shifts-requires
     meeting-requires
-    lowest-requires
-    cast-m
     loop-holds
     wider-requires-2
     has-requires
     add-m
     loop-less
     loop-again
+    (λ c κs. search needs)
     row-requires
     write-requires
     add-q

@@ -1,55 +1,51 @@
--- `main` meets its contract: what it prints is the answer to the bytes that came.
-use mathlib.Core.Path.{sym}
-use Rattle.maketable.proofs.Texts.{came-long, answered, zeros-long}
+-- `main` meets its contract: what it prints is the answer to what was read, whatever bytes it was.
 use borrow.Author.Needs.{needs}
+use Rattle.listing.specs.Listing.{textSize}
+use Rattle.maketable.proofs.Texts.{card-answers, other-answers, zeros-long}
 use Rattle.maketable.proofs.main.Statement.{statement}
 use Rattle.maketable.proofs.main.Tie as tie
 
-read-requires : tie.Need-read-requires
-read-requires c κs = search needs
+array-share-prefix-card : tie.Need-array-share-prefix-card
+array-share-prefix-card c =
+    let b1 = c .before in
+    let h = rw (b1 .input .given .1) at (b1 .before .before .read .ensures) in h .1 .used .0
 
-enum-known-all : tie.Need-enum-known-all
-enum-known-all c = search needs
-
-slice-aggregate-answer : tie.Need-slice-aggregate-answer
-slice-aggregate-answer c = sym (came-long _ _ (rw (c .before .before .all .given .1) at (c .before .before .before .before .read .ensures)))
-
-slice-aggregate-answer-2 : tie.Need-slice-aggregate-answer-2
-slice-aggregate-answer-2 c = search needs
-
-answer-requires : tie.Need-answer-requires
-answer-requires c κs = came-long _ _ (rw (c .before .before .before .all .given .1) at (c .before .before .before .before .before .read .ensures))
-
-array-share-prefix-out : tie.Need-array-share-prefix-out
-array-share-prefix-out c = search needs
-
-slice-aggregate-print : tie.Need-slice-aggregate-print
-slice-aggregate-print c = search needs
+slice-aggregate-reply : tie.Need-slice-aggregate-reply
+slice-aggregate-reply c =
+    let b2 = c .before .before in
+    let h = rw (b2 .input .given .1) at (b2 .before .before .read .ensures) in h .1 .used .1
 
 print-requires : tie.Need-print-requires
-print-requires c κs = answered _ _ _ (rw (c .before .before .before .before .before .before .all .given .1) at (c .before .before .before .before .before .before .before .before .read .ensures)) (c .before .before .answer .ensures .0 (zeros-long 195114))
+print-requires c κs bs came =
+    card-answers came (c .before .before .before .reply .ensures .0 (zeros-long textSize))
 
-enum-told : tie.Need-enum-told
-enum-told c = search needs
-
-returns : tie.Need-returns
-returns c = search needs
-
-returns-2 : tie.Need-returns-2
-returns-2 c = search needs
+print-requires-2 : tie.Need-print-requires-2
+print-requires-2 c κs bs came =
+    let b3 = c .before .before .before in
+    let b5 = b3 .before .before in
+    other-answers _ bs _ _ _ _ (b5 .enum-told .given .1) (b3 .not-a-card .ensures .0) (zeros-long textSize) came
 
 pub main-spec : {M : Type 1} → statement M
 main-spec =
     tie.close
     (tie.spec
-    read-requires
-    enum-known-all
-    slice-aggregate-answer
-    slice-aggregate-answer-2
-    answer-requires
-    array-share-prefix-out
-    slice-aggregate-print
+    (λ c. search needs)
+    (λ c κs. search needs)
+    (λ c. search needs)
+    array-share-prefix-card
+    slice-aggregate-reply
+    (λ c. search needs)
+    (λ c κs. search needs)
+    (λ c. search needs)
+    (λ c. search needs)
     print-requires
-    enum-told
-    returns
-    returns-2)
+    (λ c. search needs)
+    (λ c. search needs)
+    (λ c κs. search needs)
+    (λ c. search needs)
+    (λ c. search needs)
+    print-requires-2
+    (λ c. search needs)
+    (λ c. search needs)
+    (λ c. search needs)
+    (λ c. search needs))

@@ -1,7 +1,4 @@
-use mathlib.Core.Path.{ap₂}
-use mathlib.Core.List.{List, _∷_, _++_}
-use Prim.Native.Nat.{ℕ}
-use Rattle.parser.proofs.Held.{expected-is}
+use Rattle.parser.proofs.Held.{wrong-is}
 use borrow.Author.Needs.{needs}
 use Rattle.parser.proofs.no_action.Statement.{statement}
 use Rattle.parser.proofs.no_action.Tie as tie
@@ -16,7 +13,7 @@ count-requires : tie.Need-count-requires
 count-requires c κs = search needs
 
 returns : tie.Need-returns
-returns c = λ t st li h. ap₂ (λ (a b : List ℕ). 31 ∷ a ++ b) (c .count .ensures st li) (expected-is h (c .before .before .expected .ensures t (h .shaped) (h .rows)) (c .before .size .ensures))
+returns c = λ t st li h. wrong-is h (c .count .ensures) (c .before .before .expected .ensures t (h .shaped) (h .rows)) (c .before .size .ensures)
 
 pub no-action-spec : {M : Type 1} → statement M
 no-action-spec = tie.close (tie.spec expected-requires size-requires count-requires returns)

@@ -1,11 +1,11 @@
 use denote.Ref.{now}
 use borrow.Author.Needs.{needs}
 use mathlib.Core.Path.{refl, ap, _∙_}
-use mathlib.Core.List.{List, _∷_, []}
+use mathlib.Core.List.{List, _∷_}
 use Prim.Native.Nat.{ℕ, _-_, zero-le}
 use native.Mathlib.Nat.{sub-zero}
 use lib.ListN.{length-set}
-use Rattle.machine.specs.Machine.{start}
+use Rattle.machine.specs.ComputedRun.{start}
 use Rattle.machine.proofs.Checked.{passed, cells-within}
 use Rattle.parser.proofs.Held.{held-start, action-within, row-in, steppable}
 use Rattle.parser.proofs.Going.{Going, stop-31, stop-32, stop-step, accept-step, falls, goes-on}
@@ -57,7 +57,7 @@ same-length-4 c = c .before .before .before .before .before .loop .inv .lists
 
 returns-2 : tie.Need-returns-2 Inv-loop μ-loop
 unfolding start
-returns-2 c = stop-32 (c .before .before .before .before .before .loop .inv) (passed _ _ _ (c .before .before .before .before .before .before .before .before .before .before .before .before .pre)) (c .before .before .before .before .action .ensures .0) (c .before .before .before .if1 .left) (c .before .if2 .taken) (ap (λ (x : List ℕ). 32 ∷ x) (c .count .ensures (c .before .before .before .before .before .loop .stack) (c .before .before .before .before .before .loop .list)))
+returns-2 c = stop-32 (c .before .before .before .before .before .loop .inv) (passed _ _ _ (c .before .before .before .before .before .before .before .before .before .before .before .before .pre)) (c .before .before .before .before .action .ensures .0) (c .before .before .before .if1 .left) (c .before .if2 .taken) (ap (λ (x : List ℕ). 32 ∷ x) (c .count .ensures))
 
 step-requires : tie.Need-step-requires Inv-loop μ-loop
 step-requires c κs = steppable ((c .before .before .before .before .before .before .loop .inv) .held) (passed _ _ _ (c .before .before .before .before .before .before .before .before .before .before .before .before .before .pre)) (c .before .before .before .before .before .action .ensures .0) (c .before .before .before .before .before .action .ensures .1) (c .before .before .before .before .if1 .left) ((c .before .before .before .before .before .before .loop .inv) .most) (c .before .before .if2 .left) (c .before .before .before .before .before .before .before .before .before .before .before .before .before .fits .step-limit .fits)
@@ -76,7 +76,7 @@ same-length-6 c = c .before .before .before .before .before .before .before .bef
 
 returns-3 : tie.Need-returns-3 Inv-loop μ-loop
 unfolding start
-returns-3 c = stop-step (c .before .before .before .before .before .before .before .before .before .before .before .before .before .before .before .loop .inv) (passed _ _ _ (c .before .before .before .before .before .before .before .before .before .before .before .before .before .before .before .before .before .before .before .before .before .before .pre)) (c .before .before .before .before .before .before .before .before .before .before .before .before .before .before .action .ensures .0) (c .before .before .before .before .before .before .before .before .before .before .before .before .before .if1 .left) (c .before .before .before .before .before .before .before .before .before .before .before .if2 .left) (rw (c .before .before .n .given .1) at (c .before .before .before .before .before .before .before .before .step .ensures)) (c .stopped .ensures [] [])
+returns-3 c = stop-step (c .before .before .before .before .before .before .before .before .before .before .before .before .before .before .before .loop .inv) (passed _ _ _ (c .before .before .before .before .before .before .before .before .before .before .before .before .before .before .before .before .before .before .before .before .before .before .pre)) (c .before .before .before .before .before .before .before .before .before .before .before .before .before .before .action .ensures .0) (c .before .before .before .before .before .before .before .before .before .before .before .before .before .if1 .left) (c .before .before .before .before .before .before .before .before .before .before .before .if2 .left) (rw (c .before .before .n .given .1) at (c .before .before .before .before .before .before .before .before .step .ensures)) (c .stopped .ensures)
 
 enum-known-n-2 : tie.Need-enum-known-n-2 Inv-loop μ-loop
 enum-known-n-2 c = search needs
@@ -101,7 +101,7 @@ same-length-8 c = c .before .before .before .before .before .before .before .bef
 
 returns-4 : tie.Need-returns-4 Inv-loop μ-loop
 unfolding start
-returns-4 c = accept-step (c .before .before .before .before .before .before .before .before .before .before .before .before .before .before .before .loop .inv) (passed _ _ _ (c .before .before .before .before .before .before .before .before .before .before .before .before .before .before .before .before .before .before .before .before .before .before .pre)) (c .before .before .before .before .before .before .before .before .before .before .before .before .before .before .action .ensures .0) (c .before .before .before .before .before .before .before .before .before .before .before .before .before .if1 .left) (c .before .before .before .before .before .before .before .before .before .before .before .if2 .left) (rw (c .before .before .n3 .given .1) at (c .before .before .before .before .before .before .before .before .step .ensures)) (ap (λ (x : List ℕ). 0 ∷ x) (c .count2 .ensures [] []))
+returns-4 c = accept-step (c .before .before .before .before .before .before .before .before .before .before .before .before .before .before .before .loop .inv) (passed _ _ _ (c .before .before .before .before .before .before .before .before .before .before .before .before .before .before .before .before .before .before .before .before .before .before .pre)) (c .before .before .before .before .before .before .before .before .before .before .before .before .before .before .action .ensures .0) (c .before .before .before .before .before .before .before .before .before .before .before .before .before .if1 .left) (c .before .before .before .before .before .before .before .before .before .before .before .if2 .left) (rw (c .before .before .n3 .given .1) at (c .before .before .before .before .before .before .before .before .step .ensures)) (ap (λ (x : List ℕ). 0 ∷ x) (c .count2 .ensures))
 
 pub run-spec : {M : Type 1} → statement M
 run-spec =

@@ -17,13 +17,13 @@ enum-told-3 : tie.Need-enum-told-3
 enum-told-3 c = search needs
 
 returns : tie.Need-returns
-returns c = λ st li. cc (ap stopNumber (c .enum-told .given .1), c .before .before .count .ensures st li)
+returns c = cc (ap stopNumber (c .enum-told .given .1), c .before .before .count .ensures)
 
 returns-2 : tie.Need-returns-2
-returns-2 c = λ st li. cc (ap stopNumber (c .enum-told2 .given .1), c .before .before .count .ensures st li)
+returns-2 c = cc (ap stopNumber (c .enum-told2 .given .1), c .before .before .count .ensures)
 
 returns-3 : tie.Need-returns-3
-returns-3 c = λ st li. cc (ap stopNumber (c .enum-told3 .given .1), c .before .before .count .ensures st li)
+returns-3 c = cc (ap stopNumber (c .enum-told3 .given .1), c .before .before .count .ensures)
 
 pub stopped-spec : {M : Type 1} → statement M
 stopped-spec =

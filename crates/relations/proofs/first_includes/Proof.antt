@@ -23,7 +23,7 @@ sub-last c =
     let pre = c .before .before .before .before .before .pre in
     let terminals′ = c .before .before .terminals in
     let wider = c .before .wider in
-    let l = pre .ready .low _ (pre .below) in omega (arith, l, wider .ensures, terminals′ .ensures, c .nonterminal .ensures)
+    let l = pre .ordered .low _ (pre .below) in omega (arith, l, wider .ensures, terminals′ .ensures, c .nonterminal .ensures)
 
 last-requires : tie.Need-last-requires
 last-requires c κs = search needs
@@ -39,8 +39,8 @@ opened-requires c κs =
     let wider = c .before .before .before .wider in
     let nonterminal = c .before .before .nonterminal in
     let last = c .before .last in
-    let l = latest-of _ _ _ _ (pre .ready) _ _ (pre .below) (wider .ensures ∙ terminals′ .ensures) (last .ensures ∙ ap (λ (z : ℕ). lastOf (now (args .w)) (z - wider .result)) (nonterminal .ensures)) in
-    ((pre .nodes, pre .ready), rw (c .leaves .ensures) (pre .ready .leaves _ (pre .below)), l .most)
+    let l = latest-of _ _ _ _ (pre .ordered) _ _ (pre .below) (wider .ensures ∙ terminals′ .ensures) (last .ensures ∙ ap (λ (z : ℕ). lastOf (now (args .w)) (z - wider .result)) (nonterminal .ensures)) in
+    ((pre .nodes, pre .ordered), rw (c .leaves .ensures) (pre .ordered .leaves _ (pre .below)), l .most)
 
 returns : tie.Need-returns
 returns c =
@@ -52,7 +52,7 @@ returns c =
     let last = c .before .before .last in
     let leaves = c .before .leaves in
     λ k O. includes-first _ _ k _ O _
-    (latest-of _ _ k _ O _ _ (rw (same-count _ _ k _ O (pre .ready)) at (pre .below)) (wider .ensures ∙ terminals′ .ensures) (last .ensures ∙ ap (λ (z : ℕ). lastOf (now (args .w)) (z - wider .result)) (nonterminal .ensures)))
+    (latest-of _ _ k _ O _ _ (rw (same-count _ _ k _ O (pre .ordered)) at (pre .below)) (wider .ensures ∙ terminals′ .ensures) (last .ensures ∙ ap (λ (z : ℕ). lastOf (now (args .w)) (z - wider .result)) (nonterminal .ensures)))
     (rw (leaves .ensures) at (c .opened .ensures))
 
 pub first-includes-spec : {M : Type 1} → statement M

@@ -6,6 +6,7 @@ use denote.Ref.{now}
 use Rattle.grammar.specs.Card.{leftOf}
 use Rattle.grammar.proofs.CardLaws.{well-formed}
 use Rattle.relations.specs.Walk.{roomOf}
+use Rattle.relations.specs.declared.Relation.the-variants as relation
 use Rattle.relations.proofs.IncludeLaws.{Reached, reached-start, reached-found, reached-skip, reached-link, reached-end, fewer, occurs-at, link-below}
 use Rattle.relations.proofs.next_includes.Statement.{statement}
 use Rattle.relations.proofs.next_includes.Tie as tie
@@ -14,13 +15,13 @@ abbrev Inv-loop : tie.InvT-loop
 Inv-loop c w x cursor q at₀ set₀ at set = Reached c w x (cursor .at) (cursor .set) at set
 
 abbrev μ-loop : tie.MeasureT-loop
-μ-loop c w x cursor q at₀ set₀ at set = roomOf 1 w x at set
+μ-loop c w x cursor q at₀ set₀ at set = roomOf relation.Includes w x at set
 
 leaves-requires : tie.Need-leaves-requires Inv-loop μ-loop
 leaves-requires c κs = search needs
 
 loop-holds : tie.Need-loop-holds Inv-loop μ-loop
-loop-holds c = reached-start _ _ _ _ _ (c .before .before .before .before .pre .sound .includes (λ z. omega arith))
+loop-holds c = reached-start _ _ _ _ _ (c .before .before .before .before .pre .sound)
 
 lowest-requires : tie.Need-lowest-requires Inv-loop μ-loop
 lowest-requires c κs = search needs
@@ -39,8 +40,8 @@ cast-left c =
     let pre = c .before .before .before .before .before .before .before .before .before .before .pre in
     let loop = c .before .before .before .before .before .loop in
     let loop-test = c .before .before .before .before .loop-test in
-    let o = occurs-at _ _ (pre .nodes) (loop .at) (pre .ready) (loop-test .taken) (loop .inv .stands .within) in
-    let m = well-formed _ (pre .ready .formed) .limits .productions-to in
+    let o = occurs-at _ _ (pre .nodes) (loop .at) (pre .ordered) (loop-test .taken) (loop .inv .stands .within) in
+    let m = well-formed _ (pre .ordered .formed) .limits .productions-to in
     omega (arith, o .production, m, c .production .ensures)
 
 left-requires : tie.Need-left-requires Inv-loop μ-loop
@@ -103,7 +104,7 @@ opened-requires c κs =
     let leaves = c .before .before .before .before .before .before .leaves in
     let loop = c .before .before .before .before .loop in
     let loop-test = c .before .before .before .loop-test in
-    ((pre .nodes, pre .ready), rw (leaves .ensures) (pre .ready .leaves _ (pre .below)), rw (c .link .ensures) (link-below _ _ (pre .nodes) (loop .at) (pre .ready) (loop-test .taken) (loop .inv .stands .within)))
+    ((pre .nodes, pre .ordered), rw (leaves .ensures) (pre .ordered .leaves _ (pre .below)), rw (c .link .ensures) (link-below _ _ (pre .nodes) (loop .at) (pre .ordered) (loop-test .taken) (loop .inv .stands .within)))
 
 loop-less-2 : tie.Need-loop-less-2 Inv-loop μ-loop
 loop-less-2 c =
@@ -113,7 +114,7 @@ loop-less-2 c =
     let lowest = c .before .before .before .lowest in
     let if1 = c .before .before .if1 in
     let link = c .before .link in
-    rw (link .ensures) (reached-link _ _ _ _ _ _ _ (loop .inv) (pre .nodes) _ _ (pre .ready) (omega arith) (lowest .ensures) (if1 .left) (rw (leaves .ensures, link .ensures) at (c .opened .ensures)) .0)
+    rw (link .ensures) (reached-link _ _ _ _ _ _ _ (loop .inv) (pre .nodes) _ _ (pre .ordered) (omega arith) (lowest .ensures) (if1 .left) (rw (leaves .ensures, link .ensures) at (c .opened .ensures)) .0)
 
 loop-again-2 : tie.Need-loop-again-2 Inv-loop μ-loop
 loop-again-2 c =
@@ -123,7 +124,7 @@ loop-again-2 c =
     let lowest = c .before .before .before .lowest in
     let if1 = c .before .before .if1 in
     let link = c .before .link in
-    rw (link .ensures) (reached-link _ _ _ _ _ _ _ (loop .inv) (pre .nodes) _ _ (pre .ready) (omega arith) (lowest .ensures) (if1 .left) (rw (leaves .ensures, link .ensures) at (c .opened .ensures)) .1)
+    rw (link .ensures) (reached-link _ _ _ _ _ _ _ (loop .inv) (pre .nodes) _ _ (pre .ordered) (omega arith) (lowest .ensures) (if1 .left) (rw (leaves .ensures, link .ensures) at (c .opened .ensures)) .1)
 
 returns-2 : tie.Need-returns-2 Inv-loop μ-loop
 returns-2 c = λ k O. record {
@@ -131,7 +132,7 @@ returns-2 c = λ k O. record {
   after = λ t. absurd (true≢false (sym t));
   less = λ t. absurd (true≢false (sym t));
   sound = λ t. absurd (true≢false (sym t));
-  none = λ t y l. reached-end _ _ _ _ _ _ _ (c .before .loop .inv) k O (c .loop-test .left) y (l .inside) (l .includes (λ z. omega arith));
+  none = λ t y l. reached-end _ _ _ _ _ _ _ (c .before .loop .inv) k O (c .loop-test .left) y (l .inside) (l .remaining);
 }
 
 pub next-includes-spec : {M : Type 1} → statement M

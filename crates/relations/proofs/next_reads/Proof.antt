@@ -22,7 +22,7 @@ enters-requires : tie.Need-enters-requires Inv-loop μ-loop
 enters-requires c κs = search needs
 
 add-first : tie.Need-add-first Inv-loop μ-loop
-add-first c = let p = c .before .before .before .before .pre in let h = p .ready .enters _ (p .below) in omega arith
+add-first c = let p = c .before .before .before .before .pre in let h = p .ordered .enters _ (p .below) in omega arith
 
 first-requires : tie.Need-first-requires Inv-loop μ-loop
 first-requires c κs = search needs
@@ -51,7 +51,7 @@ returns c =
     let nonterminal = c .before .before .nonterminal in
     let nullable = c .before .nullable in
     λ k O.
-    reads-found _ _ k _ O (args .cursor) _ (loop .inv .1) _ (rw (same-count _ _ k _ O (pre .ready)) at (pre .below)) (rw (same-count _ _ k _ O (pre .ready)) at (pre .sound)) (loop .inv .0)
+    reads-found _ _ k _ O (args .cursor) _ (loop .inv .1) _ (rw (same-count _ _ k _ O (pre .ordered)) at (pre .below)) (pre .sound) (loop .inv .0)
     (rw (← enters .ensures) (rw (← first′ .ensures) (loop-test .taken)))
     (null-at _ _ _ _ _ (nullables .ensures) (nonterminal .ensures) (nullable .ensures) .yes (c .if1 .taken))
 

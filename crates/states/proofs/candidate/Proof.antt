@@ -58,8 +58,8 @@ returns-2 c = candidate-of _ _ _ _ _ _ (passed-one _ _ _ _ _ _ (c .before .befor
 add-if3 : tie.Need-add-if3 Inv-loop μ-loop Inv-loop2 μ-loop2
 add-if3 c = omega (arith, c .before .before .before .before .before .before .pre .1, c .before .before .before .before .before .before .pre .2, c .before .before .before .before .before .before .pre .3, c .before .before .before .before .before .loop .inv .1)
 
-mul-if3 : tie.Need-mul-if3 Inv-loop μ-loop Inv-loop2 μ-loop2
-mul-if3 c = omega (arith, c .before .before .before .before .before .before .pre .1, c .before .before .before .before .before .before .pre .2, c .before .before .before .before .before .before .pre .3, c .before .before .before .before .before .loop .inv .1)
+mul-if3-2 : tie.Need-mul-if3-2 Inv-loop μ-loop Inv-loop2 μ-loop2
+mul-if3-2 c = omega (arith, c .before .before .before .before .before .before .pre .1, c .before .before .before .before .before .before .pre .2, c .before .before .before .before .before .before .pre .3, c .before .before .before .before .before .loop .inv .1)
 
 shared-slice-read-if3 : tie.Need-shared-slice-read-if3 Inv-loop μ-loop Inv-loop2 μ-loop2
 shared-slice-read-if3 c = omega (arith, c .before .before .before .before .before .before .before .pre .1, c .before .before .before .before .before .before .before .pre .2, c .before .before .before .before .before .before .before .pre .3, c .before .before .before .before .before .before .loop .inv .1)
@@ -73,8 +73,8 @@ returns-3 c = candidate-of _ _ _ _ _ _ (passed-two _ _ _ _ _ _ (c .before .befor
 add-if4 : tie.Need-add-if4 Inv-loop μ-loop Inv-loop2 μ-loop2
 add-if4 c = omega (arith, c .before .before .before .before .before .before .before .before .pre .1, c .before .before .before .before .before .before .before .before .pre .2, c .before .before .before .before .before .before .before .before .pre .3, c .before .before .before .before .before .before .before .loop .inv .1)
 
-mul-if4 : tie.Need-mul-if4 Inv-loop μ-loop Inv-loop2 μ-loop2
-mul-if4 c = omega (arith, c .before .before .before .before .before .before .before .before .pre .1, c .before .before .before .before .before .before .before .before .pre .2, c .before .before .before .before .before .before .before .before .pre .3, c .before .before .before .before .before .before .before .loop .inv .1)
+mul-if4-2 : tie.Need-mul-if4-2 Inv-loop μ-loop Inv-loop2 μ-loop2
+mul-if4-2 c = omega (arith, c .before .before .before .before .before .before .before .before .pre .1, c .before .before .before .before .before .before .before .before .pre .2, c .before .before .before .before .before .before .before .before .pre .3, c .before .before .before .before .before .before .before .loop .inv .1)
 
 shared-slice-read-if4 : tie.Need-shared-slice-read-if4 Inv-loop μ-loop Inv-loop2 μ-loop2
 shared-slice-read-if4 c = omega (arith, c .before .before .before .before .before .before .before .before .before .pre .1, c .before .before .before .before .before .before .before .before .before .pre .2, c .before .before .before .before .before .before .before .before .before .pre .3, c .before .before .before .before .before .before .before .before .loop .inv .1)
@@ -144,13 +144,15 @@ candidate-spec =
     shared-slice-read-if2
     add-result
     returns-2
+    (λ c. search needs)
     add-if3
-    mul-if3
+    mul-if3-2
     shared-slice-read-if3
     add-result-2
     returns-3
+    (λ c. search needs)
     add-if4
-    mul-if4
+    mul-if4-2
     shared-slice-read-if4
     add-result-3
     returns-4

@@ -12,6 +12,7 @@ use borrow.Author.Needs.{needs}
 use Rattle.closures.specs.Areas.{slot}
 use Rattle.closures.specs.Sets.{Alike}
 use Rattle.sets.proofs.HasLaws.{lt-or-ge}
+use Rattle.items.specs.Item.{setSize}
 use Rattle.states.proofs.RowLaws.{other-word}
 use Rattle.states.proofs.find.Statement.{statement}
 use Rattle.states.proofs.find.Tie as tie
@@ -29,11 +30,11 @@ array-read-v : tie.Need-array-read-v Inv-loop μ-loop
 array-read-v c = search needs
 
 -- a state with another word k is not s
-other : (c : tie.After-shared-slice-known Inv-loop μ-loop) (p : ℕ) → p < c .before .args .n → (getD (now (c .before .args .z)) (p * 11 + c .before .args .k) 0 ≡ getD (c .before .args .t3) (c .before .args .k) 0 → ⊥) → Alike (slot (now (c .before .args .z)) p) (c .before .args .t3) → ⊥
+other : (c : tie.After-shared-slice-known Inv-loop μ-loop) (p : ℕ) → p < c .before .args .n → (getD (now (c .before .args .z)) (p * setSize + c .before .args .k) 0 ≡ getD (c .before .args .t3) (c .before .args .k) 0 → ⊥) → Alike (slot (now (c .before .args .z)) p) (c .before .args .t3) → ⊥
 other c p h n =
     let args = c .before .args in
     let pre = c .before .pre in
-    other-word (now (args .z)) (args .t3) p (args .k) (omega (arith, pre .2)) (search needs) (λ j. c .shared-slice-known .given (p * 11 + j) .fits) (λ j. let f : Fits w64 (getD (args .t3) j 0) = search needs in f .fits) (pre .1) n
+    other-word (now (args .z)) (args .t3) p (args .k) (omega (arith, pre .2)) (search needs) (λ j. c .shared-slice-known .given (p * setSize + j) .fits) (λ j. let f : Fits w64 (getD (args .t3) j 0) = search needs in f .fits) (pre .1) n
 
 candidate-requires : tie.Need-candidate-requires Inv-loop μ-loop
 candidate-requires c κs = (zero-le, c .before .pre .0, c .before .pre .1, c .before .pre .2)

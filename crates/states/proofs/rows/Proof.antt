@@ -1,4 +1,4 @@
-use mathlib.Core.Path.{_≡_, sym, _∙_}
+use mathlib.Core.Path.{_≡_, _∙_}
 use Prim.Native.Nat.{_-_, _≤_, _<_, zero-le}
 use native.Mathlib.Omega.{arith}
 use denote.Ref.{now}
@@ -7,8 +7,8 @@ use lib.Seq.{getD-set-same}
 use borrow.Author.Needs.{needs}
 use Rattle.grammar.proofs.CardLaws.{well-formed}
 use Rattle.states.proofs.TableLaws.{table-start, table-more, rowed-whole, rowed-stopped}
-use Rattle.tables.specs.Layout.{rowOf}
-use Rattle.tables.proofs.RowLaws.{row-zero, row-next, row-fits}
+use Rattle.areas.specs.Areas.{rowOf}
+use Rattle.areas.proofs.RowLaws.{row-next, row-most, row-fits}
 use Rattle.states.specs.States.{Table, finished, beyond}
 use Rattle.states.proofs.rows.Statement.{statement}
 use Rattle.states.proofs.rows.Tie as tie
@@ -37,35 +37,15 @@ add-width c =
     let wf = well-formed (now (args .c)) (c .before .before .before .before .before .before .before .before .pre .0) in
     omega (arith, wf .limits .terminals-to, wf .limits .nonterminals-to)
 
-productions-requires : tie.Need-productions-requires Inv-loop μ-loop
-productions-requires c κs = search needs
-
-wide-requires-3 : tie.Need-wide-requires-3 Inv-loop μ-loop
-wide-requires-3 c κs = search needs
-
-mul-at : tie.Need-mul-at Inv-loop μ-loop
-mul-at c =
-    let args = c .before .before .before .before .before .before .before .before .before .before .args in
-    let wf = well-formed (now (args .c)) (c .before .before .before .before .before .before .before .before .before .before .pre .0) in
-    let wide3-call = c .wide3 in
-    let productions-call = c .before .productions in
-    omega (arith, wf .limits .productions-to, wide3-call .ensures, productions-call .ensures)
-
-add-at : tie.Need-add-at Inv-loop μ-loop
-add-at c =
-    let args = c .before .before .before .before .before .before .before .before .before .before .args in
-    let wf = well-formed (now (args .c)) (c .before .before .before .before .before .before .before .before .before .before .pre .0) in
-    let wide3-call = c .wide3 in
-    let productions-call = c .before .productions in
-    omega (arith, wf .limits .productions-to, wide3-call .ensures, productions-call .ensures)
+row-requires : tie.Need-row-requires Inv-loop μ-loop
+row-requires c κs =
+    let b8 = c .before .before .before .before .before .before .before .before in
+    row-most (now (b8 .args .c)) (well-formed _ (b8 .pre .0)) 0 256 (omega arith)
 
 loop-holds : tie.Need-loop-holds Inv-loop μ-loop
 loop-holds c =
-    let pre = c .before .before .before .before .before .before .before .before .before .before .pre in
-    let wide3-call = c .wide3 in
-    let productions-call = c .before .productions in
-    let args = c .before .before .before .before .before .before .before .before .before .before .args in
-    (table-start _ _ _ (pre .5) (pre .3), rw (wide3-call .ensures, productions-call .ensures) (sym (row-zero (now (args .c)))), zero-le)
+    let pre = c .before .before .before .before .before .before .before .before .before .pre in
+    (table-start _ _ _ (pre .5) (pre .3), c .row .ensures, zero-le)
 
 mul-load : tie.Need-mul-load Inv-loop μ-loop
 mul-load c =
@@ -81,8 +61,8 @@ load-requires c κs =
 
 mul-t : tie.Need-mul-t Inv-loop μ-loop
 mul-t c =
-    let args = c .before .before .before .before .before .before .before .before .before .before .before .before .before .before .args in
-    let wf = well-formed (now (args .c)) (c .before .before .before .before .before .before .before .before .before .before .before .before .before .before .pre .0) in
+    let args = c .before .before .before .before .before .before .before .before .before .before .before .before .before .args in
+    let wf = well-formed (now (args .c)) (c .before .before .before .before .before .before .before .before .before .before .before .before .before .pre .0) in
     let loop = c .before .before .before .loop in
     let loop-test = c .before .before .loop-test in
     let l = row-fits (now (args .c)) wf (loop .q) (omega (arith, loop .inv .0 .most, loop-test .taken)) in
@@ -90,21 +70,21 @@ mul-t c =
 
 slice-write-t : tie.Need-slice-write-t Inv-loop μ-loop
 slice-write-t c =
-    let args = c .before .before .before .before .before .before .before .before .before .before .before .before .before .before .args in
-    let wf = well-formed (now (args .c)) (c .before .before .before .before .before .before .before .before .before .before .before .before .before .before .pre .0) in
+    let args = c .before .before .before .before .before .before .before .before .before .before .before .before .before .args in
+    let wf = well-formed (now (args .c)) (c .before .before .before .before .before .before .before .before .before .before .before .before .before .pre .0) in
     let loop = c .before .before .before .loop in
     let loop-test = c .before .before .loop-test in
-    let pre = c .before .before .before .before .before .before .before .before .before .before .before .before .before .before .pre in
+    let pre = c .before .before .before .before .before .before .before .before .before .before .before .before .before .pre in
     let l = row-fits (now (args .c)) wf (loop .q) (omega (arith, loop .inv .0 .most, loop-test .taken)) in
     omega (arith, loop .inv .1, loop .inv .0 .long, pre .4, wf .limits .terminals-from)
 
-row-requires : tie.Need-row-requires Inv-loop μ-loop
-row-requires c κs =
-    let args = c .before .before .before .before .before .before .before .before .before .before .before .before .before .before .before .before .args in
-    let wf = well-formed (now (args .c)) (c .before .before .before .before .before .before .before .before .before .before .before .before .before .before .before .before .pre .0) in
+row-requires-2 : tie.Need-row-requires-2 Inv-loop μ-loop
+row-requires-2 c κs =
+    let args = c .before .before .before .before .before .before .before .before .before .before .before .before .before .before .before .args in
+    let wf = well-formed (now (args .c)) (c .before .before .before .before .before .before .before .before .before .before .before .before .before .before .before .pre .0) in
     let loop = c .before .before .before .before .before .loop in
     let loop-test = c .before .before .before .before .loop-test in
-    let pre = c .before .before .before .before .before .before .before .before .before .before .before .before .before .before .before .before .pre in
+    let pre = c .before .before .before .before .before .before .before .before .before .before .before .before .before .before .before .pre in
     let l = row-fits (now (args .c)) wf (loop .q) (omega (arith, loop .inv .0 .most, loop-test .taken)) in
     let b : loop .at < length (loop .t) = omega (arith, loop .inv .1, loop .inv .0 .long, pre .4, wf .limits .terminals-from) in (
       pre .0,
@@ -121,13 +101,13 @@ row-requires c κs =
 
 same-length : tie.Need-same-length Inv-loop μ-loop
 same-length c =
-    let row-call = c .before .before .before .before .before .row in
+    let row-call = c .before .before .before .before .before .row2 in
     let loop = c .before .before .before .before .before .before .before .before .before .before .before .loop in
     row-call .kept .1 .0 ∙ simp length-set (loop .inv .0 .long)
 
 same-length-2 : tie.Need-same-length-2 Inv-loop μ-loop
 same-length-2 c =
-    let row-call = c .before .before .before .before .before .row in
+    let row-call = c .before .before .before .before .before .row2 in
     let loop = c .before .before .before .before .before .before .before .before .before .before .before .loop in
     row-call .kept .1 .1 .0 ∙ loop .inv .0 .wide
 
@@ -136,20 +116,20 @@ returns c =
     let loop = c .before .before .before .before .before .before .before .before .before .before .before .loop in
     let loop-test = c .before .before .before .before .before .before .before .before .before .before .loop-test in
     let load-call = c .before .before .before .before .before .before .before .before .load in
-    let row-call = c .before .before .before .before .before .row in
+    let row-call = c .before .before .before .before .before .row2 in
     rw (c .if1 .taken)
     (beyond _ _ _ _ (loop .inv .0) (loop-test .taken) (rw (load-call .ensures, loop .inv .1) at (rowed-stopped _ _ _ _ _ _ _ _ _ (row-call .ensures) (c .if1 .taken))))
 
-add-at-2 : tie.Need-add-at-2 Inv-loop μ-loop
-add-at-2 c =
-    let args = c .before .before .before .before .before .before .before .before .before .before .before .before .before .before .before .before .before .before .before .before .before .before .args in
-    let wf = well-formed (now (args .c)) (c .before .before .before .before .before .before .before .before .before .before .before .before .before .before .before .before .before .before .before .before .before .before .pre .0) in
+add-at : tie.Need-add-at Inv-loop μ-loop
+add-at c =
+    let args = c .before .before .before .before .before .before .before .before .before .before .before .before .before .before .before .before .before .before .before .before .before .args in
+    let wf = well-formed (now (args .c)) (c .before .before .before .before .before .before .before .before .before .before .before .before .before .before .before .before .before .before .before .before .before .pre .0) in
     let loop = c .before .before .before .before .before .before .before .before .before .before .before .loop in
     let loop-test = c .before .before .before .before .before .before .before .before .before .before .loop-test in
-    let wide2-call = c .before .before .before .before .before .before .before .before .before .before .before .before .before .before .wide2 in
-    let nonterminals-call = c .before .before .before .before .before .before .before .before .before .before .before .before .before .before .before .nonterminals in
-    let wide-call = c .before .before .before .before .before .before .before .before .before .before .before .before .before .before .before .before .wide in
-    let terminals-call = c .before .before .before .before .before .before .before .before .before .before .before .before .before .before .before .before .before .terminals in
+    let wide2-call = c .before .before .before .before .before .before .before .before .before .before .before .before .before .wide2 in
+    let nonterminals-call = c .before .before .before .before .before .before .before .before .before .before .before .before .before .before .nonterminals in
+    let wide-call = c .before .before .before .before .before .before .before .before .before .before .before .before .before .before .before .wide in
+    let terminals-call = c .before .before .before .before .before .before .before .before .before .before .before .before .before .before .before .before .terminals in
     let l = row-fits (now (args .c)) wf (loop .q) (omega (arith, loop .inv .0 .most, loop-test .taken)) in
     omega (arith, loop .inv .1, wide2-call .ensures, nonterminals-call .ensures, wide-call .ensures, terminals-call .ensures)
 
@@ -167,16 +147,16 @@ loop-less c =
 
 loop-again : tie.Need-loop-again Inv-loop μ-loop
 loop-again c =
-    let args = c .before .before .before .before .before .before .before .before .before .before .before .before .before .before .before .before .before .before .before .before .before .before .args in
-    let wf = well-formed (now (args .c)) (c .before .before .before .before .before .before .before .before .before .before .before .before .before .before .before .before .before .before .before .before .before .before .pre .0) in
+    let args = c .before .before .before .before .before .before .before .before .before .before .before .before .before .before .before .before .before .before .before .before .before .args in
+    let wf = well-formed (now (args .c)) (c .before .before .before .before .before .before .before .before .before .before .before .before .before .before .before .before .before .before .before .before .before .pre .0) in
     let load-call = c .before .before .before .before .before .before .before .before .load in
     let loop = c .before .before .before .before .before .before .before .before .before .before .before .loop in
-    let row-call = c .before .before .before .before .before .row in
+    let row-call = c .before .before .before .before .before .row2 in
     let loop-test = c .before .before .before .before .before .before .before .before .before .before .loop-test in
-    let wide2-call = c .before .before .before .before .before .before .before .before .before .before .before .before .before .before .wide2 in
-    let nonterminals-call = c .before .before .before .before .before .before .before .before .before .before .before .before .before .before .before .nonterminals in
-    let wide-call = c .before .before .before .before .before .before .before .before .before .before .before .before .before .before .before .before .wide in
-    let terminals-call = c .before .before .before .before .before .before .before .before .before .before .before .before .before .before .before .before .before .terminals in
+    let wide2-call = c .before .before .before .before .before .before .before .before .before .before .before .before .before .wide2 in
+    let nonterminals-call = c .before .before .before .before .before .before .before .before .before .before .before .before .before .before .nonterminals in
+    let wide-call = c .before .before .before .before .before .before .before .before .before .before .before .before .before .before .before .wide in
+    let terminals-call = c .before .before .before .before .before .before .before .before .before .before .before .before .before .before .before .before .terminals in
     let r = rw (load-call .ensures, loop .inv .1) at (rowed-whole _ _ _ _ _ _ _ _ _ (row-call .ensures) (c .if1 .left)) in (
       table-more _ _ _ _ _ _ _ _ _ _ wf (loop .inv .0) (loop-test .taken) r,
       omega (arith, loop .inv .1, row-next (now (args .c)) (loop .q), wide2-call .ensures, nonterminals-call .ensures, wide-call .ensures, terminals-call .ensures),
@@ -210,20 +190,17 @@ rows-spec =
     nonterminals-requires
     wide-requires-2
     add-width
-    productions-requires
-    wide-requires-3
-    mul-at
-    add-at
+    row-requires
     loop-holds
     mul-load
     load-requires
     mul-t
     slice-write-t
-    row-requires
+    row-requires-2
     same-length
     same-length-2
     returns
-    add-at-2
+    add-at
     add-q
     loop-less
     loop-again

@@ -8,16 +8,16 @@ use denote.Ref.{now}
 use borrow.Author.Needs.{needs}
 use Rattle.closures.proofs.ClosureLaws.{advances, some-advanced}
 use Rattle.grammar.proofs.CardLaws.{well-formed}
-use Rattle.items.specs.Item.{item, Next}
+use Rattle.items.specs.Item.{itemLimit, item, Next}
 use Rattle.sets.proofs.HasLaws.{lt-or-ge}
 use Rattle.states.proofs.target.Statement.{statement}
 use Rattle.states.proofs.target.Tie as tie
 
 -- a set that is not empty has a first item
-first-below : (s : List ℕ) (r : ℕ) → Next s 0 r → ((i : ℕ) × (i < 704) × (item s i ≡ true)) → r < 704
+first-below : (s : List ℕ) (r : ℕ) → Next s 0 r → ((i : ℕ) × (i < itemLimit) × (item s i ≡ true)) → r < itemLimit
 first-below s r q t =
-    let l : t .0 < 704 = t .1 in
-    ⊎-elim (λ (g : r < 704). g) (λ (g : 704 ≤ r). absurd (true≢false (sym (t .2) ∙ q .gap (t .0) zero-le (omega arith)))) (lt-or-ge r 704)
+    let l : t .0 < itemLimit = t .1 in
+    ⊎-elim (λ (g : r < itemLimit). g) (λ (g : itemLimit ≤ r). absurd (true≢false (sym (t .2) ∙ q .gap (t .0) zero-le (omega arith)))) (lt-or-ge r itemLimit)
 
 add-load : tie.Need-add-load
 add-load c =

@@ -2,8 +2,8 @@ use native.Mathlib.Omega.{arith}
 use mathlib.Core.Path.{_≡_, refl, sym, _∙_}
 use Prim.Native.Nat.{_≤_, _-_}
 use lib.ListN.{length, length-set}
-use Rattle.machine.specs.Machine.{popped}
-use Rattle.steps.proofs.Laws.{popped-step, popped-none}
+use Rattle.machine.specs.ComputedRun.{popped}
+use Rattle.machine.proofs.RunLaws.{popped-step, popped-none}
 use Rattle.steps.proofs.pop.Statement.{statement}
 use Rattle.steps.proofs.pop.Tie as tie
 

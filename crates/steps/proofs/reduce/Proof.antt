@@ -1,8 +1,8 @@
 use native.Mathlib.Omega.{arith}
 use mathlib.Core.Path.{refl, sym}
 use Prim.Native.Nat.{_-_}
-use Rattle.machine.specs.Machine.{topOf}
-use Rattle.steps.proofs.Laws.{reduced-broken, reduced-full}
+use Rattle.machine.specs.ComputedRun.{topOf}
+use Rattle.machine.proofs.RunLaws.{reduced-broken, reduced-full}
 use Rattle.steps.proofs.Kept.{reduce-as}
 use borrow.Author.Needs.{needs}
 use Rattle.steps.proofs.reduce.Statement.{statement}

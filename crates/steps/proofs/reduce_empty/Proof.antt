@@ -1,6 +1,6 @@
 use mathlib.Core.Path.{sym}
 use native.Mathlib.Nat.{sub-zero}
-use Rattle.steps.proofs.Laws.{reduced-full}
+use Rattle.machine.proofs.RunLaws.{reduced-full}
 use Rattle.steps.proofs.Kept.{reduce-as}
 use borrow.Author.Needs.{needs}
 use Rattle.steps.proofs.reduce_empty.Statement.{statement}

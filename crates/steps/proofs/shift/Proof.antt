@@ -1,6 +1,6 @@
 use mathlib.Core.Path.{refl}
 use borrow.Author.Tests.{lt-ltb, le-ltb}
-use Rattle.machine.specs.Machine.{shifted}
+use Rattle.machine.specs.ComputedRun.{shifted}
 use Rattle.steps.proofs.Kept.{kept-shift}
 use borrow.Author.Needs.{needs}
 use Rattle.steps.proofs.shift.Statement.{statement}

@@ -1,5 +1,5 @@
 use mathlib.Core.Path.{sym}
-use Rattle.steps.proofs.Laws.{moved-shift, moved-accept, moved-reduce}
+use Rattle.machine.proofs.RunLaws.{moved-shift, moved-accept, moved-reduce}
 use Rattle.steps.proofs.Kept.{restep}
 use borrow.Author.Needs.{needs}
 use Rattle.steps.proofs.step.Statement.{statement}

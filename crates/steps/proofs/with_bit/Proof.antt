@@ -1,5 +1,5 @@
 use mathlib.Core.Path.{_∙_}
-use Rattle.steps.proofs.Words.{bit-none, bit-one}
+use Rattle.machine.proofs.Offers.{bit-none, bit-one}
 use borrow.Author.Needs.{needs}
 use Rattle.steps.proofs.with_bit.Statement.{statement}
 use Rattle.steps.proofs.with_bit.Tie as tie

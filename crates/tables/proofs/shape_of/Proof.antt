@@ -1,54 +1,37 @@
-use mathlib.Core.Path.{ap, ap₂}
-use Prim.Native.Nat.{ℕ, _+_, _*_}
+use mathlib.Core.Path.{ap, ap₂, _∙_}
+use Prim.Native.Nat.{_+_}
 use native.Mathlib.Omega.{arith}
-use Rattle.tables.specs.Layout.{states, terminals, nonterminals, productions, width}
+use Rattle.tables.specs.Layout.{states, terminals, nonterminals, productions, width, cellsAt}
 use borrow.Author.Needs.{needs}
 use Rattle.tables.proofs.shape_of.Statement.{statement}
 use Rattle.tables.proofs.shape_of.Tie as tie
 
-number-requires : tie.Need-number-requires
-number-requires c κs = search needs
-
-number-requires-2 : tie.Need-number-requires-2
-number-requires-2 c κs = search needs
-
-number-requires-3 : tie.Need-number-requires-3
-number-requires-3 c κs = search needs
-
-number-requires-4 : tie.Need-number-requires-4
-number-requires-4 c κs = search needs
-
-add-t6 : tie.Need-add-t6
-add-t6 c = search needs
-
-mul-t7 : tie.Need-mul-t7
-mul-t7 c = search needs
-
-add-t8 : tie.Need-add-t8
-add-t8 c = search needs
-
 returns : tie.Need-returns
 unfolding states terminals nonterminals productions width
-returns c = record {
-  states-are = c .before .number3 .ensures .0;
-  terminals-are = c .before .before .before .number .ensures .0;
-  productions-are = c .before .before .number2 .ensures .0;
-  width-is = ap₂ _+_ (c .before .before .before .number .ensures .0) (c .number4 .ensures .0);
-  cells-at = ap (λ (p : ℕ). 4 + 2 * p) (c .before .before .number2 .ensures .0);
-  states-fit = c .before .number3 .ensures .1;
-  productions-fit = c .before .before .number2 .ensures .1;
-  width-fits = omega (arith, c .before .before .before .number .ensures .1, c .number4 .ensures .1);
-}
+returns c =
+    let b1 = c .before in
+    let b2 = b1 .before in
+    let b3 = b2 .before in
+    let b4 = b3 .before in
+    record {
+      states-are = b2 .number3 .ensures .0;
+      terminals-are = b4 .number .ensures .0;
+      productions-are = b3 .number2 .ensures .0;
+      width-is = ap₂ _+_ (b4 .number .ensures .0) (b1 .number4 .ensures .0);
+      cells-at = c .cells-at .ensures ∙ ap cellsAt (b3 .number2 .ensures .0);
+      states-fit = b2 .number3 .ensures .1;
+      productions-fit = b3 .number2 .ensures .1;
+      width-fits = omega (arith, b4 .number .ensures .1, b1 .number4 .ensures .1);
+    }
 
 pub shape-of-spec : {M : Type 1} → statement M
 shape-of-spec =
     tie.close
     (tie.spec
-    number-requires
-    number-requires-2
-    number-requires-3
-    number-requires-4
-    add-t6
-    mul-t7
-    add-t8
+    (λ c κs. search needs)
+    (λ c κs. search needs)
+    (λ c κs. search needs)
+    (λ c κs. search needs)
+    (λ c. search needs)
+    (λ c κs. search needs)
     returns)

@@ -1,9 +1,9 @@
 use borrow.Author.Needs.{needs}
-use mathlib.Core.Path.{_≡_, refl}
+use mathlib.Core.Path.{_≡_, refl, _∙_}
 use native.Mathlib.Omega.{arith}
 use mathlib.Core.List.{List}
 use Prim.Native.Nat.{ℕ, _-_, _≤_}
-use lib.ListN.{length, length-set}
+use lib.ListN.{length}
 use Rattle.grammar.specs.Card.{terminals}
 use Rattle.transitions.specs.Next.{Numbered}
 use Rattle.transition_lists.specs.Passes.{Passed, Come}
@@ -20,30 +20,15 @@ abbrev μ-loop : tie.MeasureT-loop
 loop-holds : tie.Need-loop-holds Inv-loop μ-loop
 loop-holds c = (omega arith, omega arith, refl, λ s f N t P. come-here _ _ _ _ _ _ _ P)
 
-wide32-requires : tie.Need-wide32-requires Inv-loop μ-loop
-wide32-requires c κs = search needs
-
-add-i : tie.Need-add-i Inv-loop μ-loop
-add-i c = search needs
-
-mul-w : tie.Need-mul-w Inv-loop μ-loop
-mul-w c = omega (arith, c .before .before .loop .inv .2, c .before .before .before .before .pre .1)
-
-slice-write-w : tie.Need-slice-write-w Inv-loop μ-loop
-slice-write-w c = omega (arith, c .before .before .loop .inv .2, c .before .before .before .before .pre .1, c .wide32 .ensures)
-
-add-u : tie.Need-add-u Inv-loop μ-loop
-add-u c = search needs
-
-loop-less : tie.Need-loop-less Inv-loop μ-loop
-loop-less c = search needs
+put-requires : tie.Need-put-requires Inv-loop μ-loop
+put-requires c κs = omega (arith, c .before .before .loop .inv .2, c .before .before .before .before .pre .1)
 
 loop-again : tie.Need-loop-again Inv-loop μ-loop
 loop-again c =
-    let pre = c .before .before .before .before .pre in
-    let loop = c .before .before .loop in
-    let loop-test = c .before .loop-test in
-    (omega arith, omega arith, simp length-set (loop .inv .2), λ s f N t P. store-none s _ f N t _ _ _ _ _ (c .wide32 .ensures) (loop .inv .0) (loop-test .taken) (omega (arith, loop .inv .2, pre .1)) (loop .inv .3 s f N t P))
+    let loop = c .before .before .before .before .before .loop in
+    let loop-test = c .before .before .before .before .loop-test in
+    let put = c .before .before .put in
+    (omega arith, omega arith, put .ensures .long ∙ loop .inv .2, λ s f N t P. store-none s _ f N t _ _ _ _ _ (loop .inv .0) (loop-test .taken) (put .ensures) (loop .inv .3 s f N t P))
 
 same-length : tie.Need-same-length Inv-loop μ-loop
 same-length c = c .before .loop .inv .2
@@ -58,12 +43,9 @@ close-spec =
     Inv-loop
     μ-loop
     loop-holds
-    wide32-requires
-    add-i
-    mul-w
-    slice-write-w
-    add-u
-    loop-less
+    put-requires
+    (λ c. search needs)
+    (λ c. search needs)
     loop-again
     same-length
     returns)

@@ -2,7 +2,6 @@ use borrow.Author.Needs.{needs}
 use mathlib.Core.Path.{refl}
 use native.Mathlib.Omega.{arith}
 use Prim.Native.Nat.{_-_, _≤_}
-use lib.ListN.{length-set}
 use Rattle.grammar.proofs.CardLaws.{well-formed}
 use Rattle.transitions.specs.Next.{nextOf}
 use Rattle.transition_lists.specs.Passes.{Come}
@@ -19,43 +18,31 @@ abbrev μ-loop : tie.MeasureT-loop
 loop-holds : tie.Need-loop-holds Inv-loop μ-loop
 loop-holds c = (omega arith, come-here _ _ _ _ _ _ _ (c .before .before .before .pre .3))
 
-wide32-requires : tie.Need-wide32-requires Inv-loop μ-loop
-wide32-requires c κs = search needs
-
-add-i : tie.Need-add-i Inv-loop μ-loop
-add-i c = search needs
-
-mul-w : tie.Need-mul-w Inv-loop μ-loop
-mul-w c = omega (arith, c .before .before .before .before .before .before .pre .1 .most)
-
-slice-write-w : tie.Need-slice-write-w Inv-loop μ-loop
-slice-write-w c =
+put-requires : tie.Need-put-requires Inv-loop μ-loop
+put-requires c κs =
     let pre = c .before .before .before .before .before .before .pre in
     let loop = c .before .before .loop in
-    omega (arith, loop .inv .1 .rest .long, pre .2, pre .1 .most, c .wide32 .ensures)
+    omega (arith, loop .inv .1 .rest .long, pre .2, pre .1 .most)
 
 row-requires : tie.Need-row-requires Inv-loop μ-loop
 row-requires c κs =
-    let pre = c .before .before .before .before .before .before .before .pre in
-    let loop = c .before .before .before .loop in
-    let loop-test = c .before .before .loop-test in
-    let wide32 = c .before .wide32 in
-    let C = store-row _ _ _ (pre .1) (well-formed _ (pre .0) .limits .terminals-from) _ _ _ _ _ (wide32 .ensures) (omega (arith, pre .1 .most)) (omega (arith, loop .inv .1 .rest .long, pre .2)) (loop .inv .1) in
-    (pre .0, pre .1, loop-test .taken, simp length-set (omega (arith, loop .inv .1 .rest .long, pre .2)), C .passed)
+    let pre = c .before .before .before .before .before .before .before .before .before .before .pre in
+    let loop = c .before .before .before .before .before .before .loop in
+    let loop-test = c .before .before .before .before .before .loop-test in
+    let put = c .before .before .before .put in
+    let C = store-row _ _ _ (pre .1) (well-formed _ (pre .0) .limits .terminals-from) _ _ _ _ _ (omega (arith, pre .1 .most)) (put .ensures) (loop .inv .1) in
+    (pre .0, pre .1, loop-test .taken, omega (arith, put .ensures .long, loop .inv .1 .rest .long, pre .2), C .passed)
 
 add-q : tie.Need-add-q Inv-loop μ-loop
-add-q c = omega (arith, c .before .before .before .before .before .before .before .before .before .before .pre .1 .most)
-
-loop-less : tie.Need-loop-less Inv-loop μ-loop
-loop-less c = search needs
+add-q c = omega (arith, c .before .before .before .before .before .before .before .before .before .before .before .before .before .pre .1 .most)
 
 loop-again : tie.Need-loop-again Inv-loop μ-loop
 loop-again c =
-    let pre = c .before .before .before .before .before .before .before .before .before .before .pre in
-    let loop = c .before .before .before .before .before .before .loop in
-    let wide32 = c .before .before .before .before .wide32 in
+    let pre = c .before .before .before .before .before .before .before .before .before .before .before .before .before .pre in
+    let loop = c .before .before .before .before .before .before .before .before .before .loop in
+    let put = c .before .before .before .before .before .before .put in
     let row = c .before .before .row in
-    let C = store-row _ _ _ (pre .1) (well-formed _ (pre .0) .limits .terminals-from) _ _ _ _ _ (wide32 .ensures) (omega (arith, pre .1 .most)) (omega (arith, loop .inv .1 .rest .long, pre .2)) (loop .inv .1) in
+    let C = store-row _ _ _ (pre .1) (well-formed _ (pre .0) .limits .terminals-from) _ _ _ _ _ (omega (arith, pre .1 .most)) (put .ensures) (loop .inv .1) in
     (omega arith, row-done _ _ _ (well-formed _ (pre .0) .limits .terminals-from) (pre .1) _ _ _ _ _ _ refl (come-trans _ _ _ _ _ _ _ _ _ (C .rest) (row .ensures)))
 
 same-length : tie.Need-same-length Inv-loop μ-loop
@@ -71,13 +58,10 @@ rows-spec =
     Inv-loop
     μ-loop
     loop-holds
-    wide32-requires
-    add-i
-    mul-w
-    slice-write-w
+    put-requires
     row-requires
     add-q
-    loop-less
+    (λ c. search needs)
     loop-again
     same-length
     returns)

@@ -1,0 +1,159 @@
+//! The binding of the generator, and with it the way card, table, text, table, parse.
+
+use sidumza::generator::{generate, table_of, Refusal, HALVES, TABLE, WORDS};
+use sidumza::{parse, read_table, Answer};
+use std::collections::BTreeSet;
+
+const CARD_A: &str = "3 1 2 3 3 3 2 1 3 1 2";
+
+fn numbers(text: &str) -> Vec<u16> {
+    text.split_whitespace().map(|word| word.parse().expect("a number")).collect()
+}
+
+fn line<T: ToString>(numbers: &[T]) -> String {
+    numbers.iter().map(|n| format!(" {}", n.to_string())).collect()
+}
+
+fn printed(table: &[u16]) -> String {
+    let (p, width) = (table[3] as usize, (table[1] + table[2]) as usize);
+    let (left, rest) = table[4..].split_at(p);
+    let (length, cells) = rest.split_at(p);
+    let mut text = format!("table{}\nleft{}\nlength{}\n", line(&table[..4]), line(left), line(length));
+    for (state, row) in cells.chunks(width).enumerate() {
+        text += &format!("row {state} :{}\n", line(row));
+    }
+    text
+}
+
+/// As maketable prints a refusal.
+fn refused(refusal: Refusal) -> String {
+    let values = match refusal {
+        Refusal::Useless { nonterminal } => vec![nonterminal],
+        Refusal::Conflict { state, terminal, lower, higher } => vec![state, terminal, lower, higher],
+        _ => vec![],
+    };
+    format!("refused {}{}", refusal.number(), line(&values))
+}
+
+#[test]
+fn every_refusal_has_its_number_and_words() {
+    let long = format!("2 1 1 255 2 255 {}", "1 ".repeat(255));
+    // a chain of 60 nonterminals entered from 36 contexts
+    let chain: Vec<usize> = (38..97).collect();
+    let (t, n, contexts) = (38, 60, 36);
+    let crowded = format!(
+        "{t} {n} {} {} {} {} {} {} {} {}",
+        chain.len() + contexts + 1,
+        chain.len() + 2 * contexts + 1,
+        line(&chain),
+        line(&vec![t + n - 1; contexts + 1]),
+        line(&vec![1; chain.len()]),
+        line(&[vec![2; contexts], vec![1]].concat()),
+        line(&chain.iter().map(|x| x + 1).collect::<Vec<_>>()),
+        line(&[(1..=contexts).flat_map(|c| [c, t]).collect(), vec![t - 1]].concat()),
+    );
+    for (card, words) in [
+        ("3 1 2", "refused 4: card under 4 numbers"),
+        ("65 1 1 1 65 1 64", "refused 5: a size outside its limits"),
+        ("3 1 2 3 3 3 2 1 3 1 2 1", "refused 6: not 4 + 2P + L numbers"),
+        ("3 1 2 3 3 2 2 1 3 1 2", "refused 7: a left side that is no nonterminal"),
+        ("2 1 2 0 2 2 65535 1", "refused 8: lengths that do not add up to L"),
+        ("3 1 2 3 3 3 2 1 0 1 2", "refused 9: a symbol that is 0 or at least T + N"),
+        ("2 1 1 1 2 1 2", "refused 10: nonterminal 2 is not reached or derives no string of terminals"),
+        (&long, "refused 11: more than 256 states"),
+        (&crowded, "refused 12: more than 2048 transitions on nonterminals"),
+        ("2 1 2 3 2 2 2 1 2 2 1", "refused 13: in state 3, terminal 1, 1 and 1024 meet"),
+    ] {
+        let refusal = table_of(&numbers(card)).expect_err(words);
+        assert_eq!(refusal.to_string(), words);
+        assert!(words.starts_with(&format!("refused {}:", refusal.number())));
+        let _: &dyn std::error::Error = &refusal;
+    }
+    let card = numbers(CARD_A);
+    for (lengths, words) in [
+        ([TABLE - 1, WORDS, HALVES], "refused 1: table area under 32004 numbers"),
+        ([TABLE, WORDS - 1, HALVES], "refused 2: first work area under 8192 numbers"),
+        ([TABLE, WORDS, HALVES - 1], "refused 3: second work area under 16384 numbers"),
+    ] {
+        let (mut table, mut area, mut halves) = (vec![7; lengths[0]], vec![7; lengths[1]], vec![7; lengths[2]]);
+        let refusal = generate(&card, &mut table, &mut area, &mut halves).expect_err(words);
+        assert_eq!(refusal.to_string(), words);
+        let kept = table.iter().all(|&x| x == 7) && area.iter().all(|&x| x == 7) && halves.iter().all(|&x| x == 7);
+        assert!(kept, "a refusal changes nothing");
+    }
+}
+
+#[test]
+fn areas_are_left_as_the_header_says() {
+    let (mut table, mut words, mut halves) = (vec![7; TABLE + 1], vec![7; WORDS + 1], vec![7; HALVES + 1]);
+    let length = generate(&numbers(CARD_A), &mut table, &mut words, &mut halves).expect("a table");
+    assert_eq!(table[..length], table_of(&numbers(CARD_A)).expect("a table"));
+    assert_eq!(length, 24);
+    assert!(table[length..TABLE].iter().all(|&x| x == 0) && table[TABLE] == 7);
+    assert!(words[..WORDS].iter().all(|&x| x == 0) && words[WORDS] == 7);
+    assert!(halves[..HALVES].iter().all(|&x| x == 0) && halves[HALVES] == 7);
+}
+
+#[test]
+fn stored_cards_give_their_answers_and_tables_are_read_back() {
+    let folder = std::path::Path::new(env!("CARGO_MANIFEST_DIR")).join("../../tests/bison/data");
+    let (mut tables, mut seen) = (0, BTreeSet::new());
+    for file in std::fs::read_dir(folder).expect("the stored cards") {
+        let text = std::fs::read_to_string(file.expect("a file").path()).expect("a text");
+        let lines: Vec<&str> = text.lines().collect();
+        for pair in lines.windows(2) {
+            let Some(card) = pair[0].strip_prefix("card ") else { continue };
+            match table_of(&numbers(card)) {
+                Ok(table) => {
+                    assert_eq!(pair[1], format!("table {}", table[0]), "card {card}");
+                    assert_eq!(read_table(printed(&table).as_bytes()).as_ref(), Ok(&table), "card {card}");
+                    tables += 1;
+                }
+                Err(refusal) => {
+                    assert_eq!(pair[1], refused(refusal), "card {card}");
+                    seen.insert(refusal.number());
+                }
+            }
+        }
+    }
+    assert!(tables > 300, "{tables} tables");
+    assert!(seen.contains(&11) && seen.contains(&12) && seen.contains(&13), "refusals {seen:?}");
+}
+
+#[test]
+fn answers_have_words() {
+    let table = table_of(&numbers(CARD_A)).expect("a table");
+    let said = |input: &[u8], stack: usize, list: usize, limit: u32| {
+        let answer = parse(&table, input, &mut vec![0; stack], &mut vec![0; list], limit);
+        let _: &dyn std::error::Error = &answer;
+        (answer.number(), answer.to_string())
+    };
+    let all = [
+        (said(&[2, 1], 9, 9, 9), 0, "accepted: steps 5, listed 2"),
+        (said(&[2, 2], 9, 9, 9), 31, "wrong at 1: steps 1, expected 0 1"),
+        (said(&[2, 1], 9, 9, 4), 32, "stopped 32: steps 4, stack 2, listed 2"),
+        (said(&[2, 1], 2, 9, 9), 33, "stopped 33: steps 2, stack 2, listed 1"),
+        (said(&[2, 1], 9, 1, 9), 34, "stopped 34: steps 3, stack 3, listed 1"),
+        (said(&[9], 9, 9, 9), 26, "refused 26: no such terminal"),
+        (said(&[2], 0, 9, 9), 27, "refused 27: no stack area"),
+        (said(&[1; 65_536], 9, 9, 9), 25, "refused 25: input too long"),
+    ];
+    for ((number, words), wanted, text) in all {
+        assert_eq!((number, words.as_str()), (wanted, text));
+    }
+    let foreign = |table: &[u16]| parse(table, &[], &mut [0; 9], &mut [0; 9], 9);
+    for (table, number, words) in [
+        (&[][..], 21, "refused 21: table too short"),
+        (&[0, 1, 1, 1], 22, "refused 22: bad sizes in the table"),
+        (&[1, 1, 1, 1, 0, 1, 1024, 0], 23, "refused 23: bad production in the table"),
+        (&[1, 1, 1, 1, 1, 1, 1, 0], 24, "refused 24: bad cell in the table"),
+        (&[1, 1, 1, 1, 1, 1, 1024, 0], 35, "stopped 35: steps 0, stack 1, listed 0"),
+    ] {
+        let answer = foreign(table);
+        assert_eq!((answer.number(), answer.to_string().as_str()), (number, words));
+        if let Answer::Refused { refusal } = answer {
+            assert_eq!((refusal.number(), refusal.to_string().as_str()), (number, words));
+            let _: &dyn std::error::Error = &refusal;
+        }
+    }
+}

@@ -1,0 +1,45 @@
+-- The maker's rows: one behind the other, 256 of them within the table area, and where the table has its own.
+use Prim.Native.Nat.{ℕ, _+_, _*_, _≤_, _<_}
+use mathlib.Core.Path.{_≡_, refl}
+use mathlib.Core.List.{List}
+use native.Mathlib.Nat.{suc-mul, mul-le-mul}
+use native.Mathlib.Numerals.{add-one}
+use native.Mathlib.Omega.{arith}
+use Rattle.grammar.specs.Card.{terminals, nonterminals, productions}
+use Rattle.grammar.proofs.CardLaws.{WellFormed}
+use Rattle.tables.specs.Layout.{headerSize, rowAt}
+use Rattle.tables.proofs.Places.{row-within}
+use Rattle.areas.specs.Areas.{tableSize, rowOf}
+
+-- the place by numbers that stand for the card's
+pub row-is : (c : List ℕ) (q : ℕ) {t n h : ℕ} → t ≡ terminals c → n ≡ nonterminals c → h ≡ headerSize (productions c) → h + q * (t + n) ≡ rowOf c q
+unfolding rowOf
+row-is c q et en eh = rw (et, en, eh) refl
+
+-- the maker's rows stand where the table has them
+pub row-table : (c : List ℕ) (q : ℕ) → rowOf c q ≡ rowAt (productions c) (terminals c + nonterminals c) q
+unfolding rowOf
+row-table c q = refl
+
+pub row-header : (c : List ℕ) (q : ℕ) → headerSize (productions c) ≤ rowOf c q
+unfolding rowOf
+row-header c q = omega arith
+
+pub row-next : (c : List ℕ) (q : ℕ) → rowOf c (q + 1) ≡ rowOf c q + (terminals c + nonterminals c)
+unfolding rowOf
+row-next c q = rw (add-one, suc-mul q (terminals c + nonterminals c)) (omega arith)
+
+pub row-mono : (c : List ℕ) (p q : ℕ) → p < q → rowOf c p + (terminals c + nonterminals c) ≤ rowOf c q
+unfolding rowOf
+row-mono c p q h = let e = row-within (terminals c + nonterminals c) p q h in omega arith
+
+-- the limits of a card: at most 128 productions and 124 symbols
+pub row-most : (c : List ℕ) → WellFormed c → (q n : ℕ) → q ≤ n → rowOf c q ≤ headerSize 128 + n * 124
+unfolding rowOf
+row-most c f q n h =
+    let w : terminals c + nonterminals c ≤ 124 = omega (arith, f .limits .terminals-to, f .limits .nonterminals-to) in
+    let m : q * (terminals c + nonterminals c) ≤ n * 124 = mul-le-mul h w in
+    omega (arith, f .limits .productions-to)
+
+pub row-fits : (c : List ℕ) → WellFormed c → (q : ℕ) → q < 256 → rowOf c q + (terminals c + nonterminals c) ≤ tableSize
+row-fits c f q h = let e = row-mono c q 256 h in let m = row-most c f 256 256 (omega arith) in omega arith

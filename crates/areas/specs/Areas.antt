@@ -1,0 +1,19 @@
+-- The areas that the maker is lent: their lengths, and where its rows stand.
+use Prim.Native.Nat.{ℕ, _+_, _*_}
+use mathlib.Core.List.{List}
+use Rattle.grammar.specs.Card.{terminals, nonterminals, productions}
+use Rattle.tables.specs.Layout.{headerSize}
+
+-- "a table area (at least 32,004 numbers of 16 bits) and two work areas (8,192 numbers of 64 bits, 16,384 of 32 bits)"
+abbrev pub tableSize : ℕ
+tableSize = 32004
+
+abbrev pub wordsSize : ℕ
+wordsSize = 8192
+
+abbrev pub halvesSize : ℕ
+halvesSize = 16384
+
+-- where the row of state q begins in the table area while the maker of the table of the card c is at work: there is room for the header before the rows
+unfoldable pub rowOf : List ℕ → ℕ → ℕ
+rowOf c q = headerSize (productions c) + q * (terminals c + nonterminals c)

@@ -1,0 +1,63 @@
+-- The three demands, as theorems about the definitions that the contracts of the entry points cite: `generated` (the maker: generate, sidumza_generate)
+-- and `reading` (the reader: parse, sidumza_parse). A terminal is the papers' mark, an input their line, a step limit their allowance.
+use Prim.Native.Nat.{ℕ}
+use mathlib.Core.Path.{_≡_, refl}
+use mathlib.Core.List.{List, [], _∷_, map}
+use lib.ListN.{length}
+use Rattle.grammar.specs.Card.{formFault, grammarOf}
+use Rattle.machine.specs.Checks.{refusalOf}
+use Rattle.machine.specs.Report.{Reading}
+use Rattle.machine.specs.Faithful.{Faithful}
+use Rattle.machine.specs.Reads.{Reads}
+use Rattle.machine.specs.ComputedRun.{reading}
+use Rattle.machine.proofs.ReadsLaws.{faithful, reads-exactly}
+use Rattle.lalr.specs.Answer.{numbersOf, Generated}
+use Rattle.lalr.specs.ComputedGenerator.{generated}
+use Rattle.lalr.specs.Demand2.{Room, Demand2}
+use Rattle.lalr.specs.Generates.{Generates}
+use Rattle.lalr.proofs.Demand2.{demand-2}
+use Rattle.lalr.proofs.Generates.{generates, only-generated}
+use Rattle.lalr.proofs.AnswerLaws.{made-by-number}
+use Rattle.claim.specs.Claim.{Demand3}
+use Rattle.certificate.specs.Rows.{Row, rows, stated, computed}
+use Rattle.certificate.proofs.Demand.{across}
+use Rattle.certificate.proofs.Starred.{starred}
+
+-- "1. Maker and reader give a fixed, stated answer for all contents and lengths of what they are handed: a result or one numbered refusal, with the state
+-- of each lent area. No duty on the caller."
+-- The maker is handed a table area t, work areas z and w and a card c: `Generates` says what it answers and leaves, and nothing else meets that
+pub demand-1-maker : (t z w c : List ℕ) → Generates t z w c (generated t z w c)
+demand-1-maker t z w c = generates t z w c
+
+pub only-maker : (t z w c : List ℕ) (out : Generated) → Generates t z w c out → out ≡ generated t z w c
+only-maker t z w c out g = only-generated t z w c out g
+
+-- The reader is handed a table t, an input, a stack area, a list area and a step limit: `Reads` says what it answers and leaves, and nothing else meets that
+pub demand-1-reader : (t input stack list : List ℕ) (limit : ℕ) → Reads t input stack list limit (reading t input stack list limit)
+demand-1-reader t input stack list limit = reads-exactly t input stack list limit (reading t input stack list limit) .1 refl
+
+pub only-reader : (t input stack list : List ℕ) (limit : ℕ) (r : Reading) → Reads t input stack list limit r → r ≡ reading t input stack list limit
+only-reader t input stack list limit r d = reads-exactly t input stack list limit r .0 d
+
+-- "2. The table made equals, cell for cell, the one defined by canonical LR(1) item sets merged by core, or is refused as a conflict exactly when two
+-- actions meet in a cell, the first such cell named."
+-- With areas of full length and a card past 4 to 9
+pub demand-2-maker : (t z w c : List ℕ) → Room t z w → formFault c ≡ 0 → Demand2 t z w c (generated t z w c)
+demand-2-maker t z w c o h = demand-2 t z w c o h
+
+-- "The reader makes the moves of the LR machine on every table that passes the check, and its count is their number."
+pub demand-2-reader : (t input stack list : List ℕ) (limit : ℕ) → refusalOf t input (length stack) ≡ 0 → Faithful t input stack list limit (reading t input stack list limit)
+demand-2-reader t input stack list limit e = faithful t input stack list limit e
+
+-- "3. For every accepted grammar and every line, allowance and areas: if the reader, with that table as the maker left it, takes the line and does not run
+-- out of moves, stack or list, it accepts exactly when the grammar derives the line; the rules it lists, backwards, are a rightmost derivation and its only
+-- one; where it does not accept, it names the first place where the marks so far, that one included, begin no sentence, or the end exactly when the whole
+-- line begins one and is none."
+-- The maker accepts a card where the number of its answer is 0
+pub demand-3 : (t z w c : List ℕ) → numbersOf (generated t z w c .answer) ≡ 0 ∷ [] → (input stack list : List ℕ) (limit : ℕ)
+    → Demand3 (grammarOf c) input (reading (generated t z w c .table) input stack list limit)
+demand-3 t z w c e input stack list limit = across t z w c (made-by-number t z w c e) input stack list limit
+
+-- "Starred ones are shown to follow from the definitions, as rows of a common table covered by one theorem."
+pub starred-rows : map (λ (r : Row). computed (r .card) (r .lines)) rows ≡ map (λ (r : Row). stated (r .answer) (r .lines)) rows
+starred-rows = starred

@@ -1,0 +1,119 @@
+-- The reading as a function, which nobody has to believe: `reads-exactly` of proofs/ReadsLaws.antt proves it equal to the definition `Reads`.
+-- The reader's machine: a stack of states in a lent area, a list of productions in another, and a step limit.
+-- A step is the paper's move, the step limit its allowance, the position its place, the expected set its offer.
+use Prim.Native.Nat.{ℕ, zero, suc, _+_, _-_, _*_, _^_}
+use mathlib.Core.List.{List}
+use mathlib.Core.Bool.{cond}
+use lib.ListN.{length, getD, set}
+use lib.Dec.{ltb, eqb}
+use lib.Count.{ones}
+use Rattle.tables.specs.Layout.{terminals, leftOf, lengthOf, accept, cellOf}
+use Rattle.machine.specs.Checks.{refusalOf}
+use Rattle.machine.specs.Report.{Report, refused, wrong-at, Reading}
+
+-- both areas, how many places of each are in use, the position in the input and the steps made
+pub record Machine : Type 0 where
+  pub stack : List ℕ
+  pub list : List ℕ
+  pub depth : ℕ
+  pub listed : ℕ
+  pub position : ℕ
+  pub steps : ℕ
+
+-- what comes of a step: an end with its number and the machine as it was, the machine after the step, or acceptance
+pub data Next : Type 0 where
+  ended : ℕ → Machine → Next
+  moved : Machine → Next
+  accepted : Machine → Next
+
+-- "a place popped becomes 0": n places popped off a stack of d
+unfoldable pub popped : List ℕ → ℕ → ℕ → List ℕ
+popped s d zero = s
+popped s d (suc n) = popped (set s (d - 1) 0) (d - 1) n
+
+-- the state on top of a stack of d places
+unfoldable pub topOf : List ℕ → ℕ → ℕ
+topOf s d = getD s (d - 1) 0
+
+-- the action for the top state and the next terminal, which is 0 after the last
+unfoldable pub actionOf : List ℕ → List ℕ → Machine → ℕ
+actionOf t l m = cellOf t (topOf (m .stack) (m .depth)) (getD l (m .position) 0)
+
+-- 33, "a push with no place left", is tested last
+unfoldable pub shifted : ℕ → Machine → Next
+shifted q m =
+    cond (ltb (m .depth) (length (m .stack)))
+    (moved (record { stack = set (m .stack) (m .depth) q; list = m .list; depth = m .depth + 1; listed = m .listed; position = m .position + 1; steps = m .steps + 1 }))
+    (ended 33 m)
+
+-- the reduction by production r of n symbols, after which d places stay in use and state q is pushed: 35 before 33
+unfoldable pub reducedTo : ℕ → ℕ → ℕ → ℕ → Machine → Next
+reducedTo r n d q m =
+    cond (eqb q 0) (ended 35 m)
+    (cond (ltb d (length (m .stack)))
+    (moved (record { stack = set (popped (m .stack) (m .depth) n) d q; list = set (m .list) (m .listed) r; depth = d + 1; listed = m .listed + 1; position = m .position; steps = m .steps + 1 }))
+    (ended 33 m))
+
+-- 34, "a reduction with the list full", then 35, "a reduction that would pop state 0, or whose next state is 0"
+unfoldable pub reduced : List ℕ → ℕ → Machine → Next
+reduced t r m =
+    cond (ltb (m .listed) (length (m .list)))
+    (cond (ltb (lengthOf t r) (m .depth))
+    (reducedTo r (lengthOf t r) (m .depth - lengthOf t r) (cellOf t (topOf (m .stack) (m .depth - lengthOf t r)) (leftOf t r)) m)
+    (ended 35 m))
+    (ended 34 m)
+
+-- the step that a cell other than 0 asks for: a shift below 1024, accept, else a reduction by production a - 1024
+unfoldable pub movedBy : List ℕ → ℕ → Machine → Next
+movedBy t a m =
+    cond (ltb a 1024) (shifted a m)
+    (cond (eqb a accept)
+    (accepted (record { stack = m .stack; list = m .list; depth = m .depth; listed = m .listed; position = m .position; steps = m .steps + 1 }))
+    (reduced t (a - 1024) m))
+
+pub record Outcome : Type 0 where
+  pub number : ℕ
+  pub final : Machine
+
+unfoldable pub after : (Machine → Outcome) → Next → Outcome
+after go (ended n m) = record { number = n; final = m }
+after go (moved m) = go m
+after go (accepted m) = record { number = 0; final = m }
+
+-- the run with so many steps left: 31 where the cell is 0, then 32 where no step is left, then the ends of the step itself
+unfoldable pub run : List ℕ → List ℕ → ℕ → Machine → Outcome
+run t l zero m = cond (eqb (actionOf t l m) 0) (record { number = 31; final = m }) (record { number = 32; final = m })
+run t l (suc k) m =
+    cond (eqb (actionOf t l m) 0) (record { number = 31; final = m }) (after (run t l k) (movedBy t (actionOf t l m) m))
+
+-- "the stack starts with state 0"
+unfoldable pub start : List ℕ → List ℕ → Machine
+start s rs = record { stack = set s 0 0; list = rs; depth = 1; listed = 0; position = 0; steps = 0 }
+
+abbrev pub bitIf : ℕ → ℕ
+bitIf zero = 0
+bitIf (suc _) = 1
+
+-- the terminals below k whose cell in row q is not 0, as the bits of a word
+unfoldable pub expectedWord : List ℕ → ℕ → ℕ → ℕ
+expectedWord t q zero = 0
+expectedWord t q (suc k) = bitIf (cellOf t q k) * 2 ^ k + expectedWord t q k
+
+-- the report of an end other than 31
+abbrev pub endedAt : ℕ → Machine → Report
+endedAt n m = Report.ended n (m .steps) (m .depth) (m .listed)
+
+-- the report of 31, with the expected set of the top state
+unfoldable pub wrongAt : List ℕ → Machine → Report
+wrongAt t m =
+    let word = expectedWord t (topOf (m .stack) (m .depth)) (terminals t) in
+    wrong-at (m .steps) (m .depth) (m .listed) (m .position) word (ones word)
+
+unfoldable pub reportOf : List ℕ → Outcome → Report
+reportOf t o = cond (eqb (o .number) 31) (wrongAt t (o .final)) (endedAt (o .number) (o .final))
+
+unfoldable pub reading : List ℕ → List ℕ → List ℕ → List ℕ → ℕ → Reading
+reading t l st li a =
+    cond (eqb (refusalOf t l (length st)) 0)
+    (record { report = reportOf t (run t l a (start st li)); stack = run t l a (start st li) .final .stack; list = run t l a (start st li) .final .list })
+    (record { report = refused (refusalOf t l (length st)); stack = st; list = li })

@@ -1,0 +1,19 @@
+-- What the parts of a reading hand on to each other. Only private functions cite this.
+use Prim.Native.Nat.{ℕ}
+use mathlib.Core.Path.{_≡_}
+use mathlib.Core.List.{List, [], _∷_}
+use Rattle.machine.specs.Report.{numbersOf}
+use Rattle.machine.specs.ComputedRun.{Outcome, reportOf}
+use Rattle.steps.specs.declared.State.{State}
+use Rattle.parser.specs.declared.Answer.{Answer}
+use Rattle.parser.specs.Answer.{numbers}
+
+-- what an end at a state carries
+abbrev pub reached : State → List ℕ
+reached s = s .steps ∷ s .depth ∷ s .listed ∷ []
+
+-- the answer and both areas at exit are those of an outcome of the machine
+pub record Ends (t : List ℕ) (o : Outcome) (r : Answer) (st li : List ℕ) : Type 0 where
+  pub answer : numbers r ≡ numbersOf (reportOf t o)
+  pub stack : st ≡ o .final .stack
+  pub list : li ≡ o .final .list
