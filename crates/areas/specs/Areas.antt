@@ -14,6 +14,6 @@ wordsSize = 8192
 abbrev pub halvesSize : ℕ
 halvesSize = 16384
 
--- where the row of state q begins in the table area while the maker of the table of the card c is at work: there is room for the header before the rows
+-- the maker's working rows: where the row of state q of the card c begins in the table area, behind room for the header
 unfoldable pub rowOf : List ℕ → ℕ → ℕ
 rowOf c q = headerSize (productions c) + q * (terminals c + nonterminals c)

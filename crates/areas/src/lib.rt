@@ -10,7 +10,7 @@ pub const WORDS: usize = 8192;
 
 pub const HALVES: usize = 16384;
 
-// Where the row of state q begins in the table area.
+// Where the maker's row of state q begins in the table area.
 pub fn row(c: &[u16], q: usize) -> usize
     requires { ⌜ rowOf (now c) q ≤ tableSize ⌝ }
     ensures { λ r. ⌜ r ≡ rowOf (now (c .entry)) q ⌝ }

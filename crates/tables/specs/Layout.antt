@@ -22,8 +22,8 @@ productions t = getD t 3 0
 unfoldable pub width : List ℕ → ℕ
 width t = terminals t + nonterminals t
 
--- the places of a table of p productions: the left side of production r, the length of its right side, the end of the header,
--- which is the sizes and both arrays, and the first cell
+-- the places of a table of p productions: the left side of production r, the length of its right side, the end of the header, and the first cell.
+-- The header is the sizes and both arrays
 abbrev pub leftAt : ℕ → ℕ
 leftAt r = 4 + r
 
