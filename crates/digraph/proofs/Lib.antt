@@ -1,4 +1,3 @@
 pub mod Theory
 pub mod Counts
 pub mod Steps
-pub mod Laws
