@@ -1,3 +1,4 @@
 pub mod Theory
 pub mod Counts
 pub mod Steps
+pub mod Sums
