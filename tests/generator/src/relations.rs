@@ -1,6 +1,7 @@
 //! The short way by relations of nonterminal transitions, with a fault on
 //! demand. It is not part of the reference: it shows that faults in this way of
-//! working are found, and counts the relations of slow cards.
+//! working are found, counts the relations of slow cards, and lends its steps to
+//! the test of sums.
 
 use std::collections::HashMap;
 use std::ops::BitOr;
