@@ -1,5 +1,5 @@
 #!/usr/bin/env python3
-"""Checks README.md and docs/*.md.
+"""Checks README.md and the documents in docs.
 
     check.py
 
@@ -8,9 +8,12 @@
   a `Record.field` each part does.
 - A block marked `console` is what the commands in it print: those behind `$ ` are run at the root, and standard output
   and standard error are compared.
+- The table in docs/CONTRIBUTING.md of what a change proves again is what tools/layers.py makes of crates.txt and of the
+  seconds in the table.
 
 Then faults are planted in copies, and each must be found."""
 
+import importlib.util
 import os
 import pathlib
 import re
@@ -22,7 +25,7 @@ ROOT = pathlib.Path(__file__).resolve().parents[2]
 
 
 def documents(root):
-    return [root / "README.md", *sorted((root / "docs").glob("*.md"))]
+    return [root / "README.md", *sorted((root / "docs").rglob("*.md"))]
 
 
 def without_code(text):
@@ -103,6 +106,24 @@ def commands(root, only=""):
     return faults, count
 
 
+def layers(root):
+    """The faults of the table of what a change proves again, and how many rows it has."""
+    spec = importlib.util.spec_from_file_location("layers", root / "tools/layers.py")
+    tool = importlib.util.module_from_spec(spec)
+    spec.loader.exec_module(tool)
+    text = (root / "docs/CONTRIBUTING.md").read_text()
+    table = re.search(r"^\| crate \| its own seconds (.*\n)+?(?=\n)", text, re.M).group()
+    seconds = re.findall(r"^\| (\w+) \| (\d+) \|", table, re.M)
+    crates = (root / "crates.txt").read_text()
+    missing = set(re.findall(r"^(\w+):", crates, re.M)) - {name for name, _ in seconds}
+    if missing:
+        return [f"docs/CONTRIBUTING.md: no row for {', '.join(sorted(missing))}"], len(seconds)
+    said = "".join(f"rt: {name} proved ({took} s)\n" for name, took in seconds)
+    if tool.rows(crates, said) != table:
+        return ["docs/CONTRIBUTING.md: the table is not what tools/layers.py makes of its seconds"], len(seconds)
+    return [], len(seconds)
+
+
 def append(file, text):
     """A fault: a text behind a file's."""
     return lambda root: (root / file).write_text((root / file).read_text() + "\n" + text + "\n")
@@ -117,6 +138,16 @@ def replace(file, old, new):
     return plant
 
 
+def row(name, change):
+    """A fault: another row of the table of what a change proves again."""
+    def plant(root):
+        file = root / "docs/CONTRIBUTING.md"
+        text, count = re.subn(rf"^\| {name} \|.*\n", change, file.read_text(), flags=re.M)
+        assert count == 1, f"no row of {name}"
+        file.write_text(text)
+    return plant
+
+
 PLANTED = [
     ("a link to no file", links, append("README.md", "[x](docs/NOWHERE.md)")),
     ("a link out of the repository", links, append("docs/GLOSSARY.md", "[x](../../../../etc/passwd)")),
@@ -127,6 +158,9 @@ PLANTED = [
     ("part of a claim's name", links, append("docs/CLAIMS.md", "[`count`](../crates/planted/specs/File.antt)")),
     ("a claim's second name", links, append("docs/CLAIMS.md", "[`count-le`, `nowhere`](../crates/planted/specs/File.antt)")),
     ("another output", commands, replace("docs/FORMATS.md", "$ echo three | ./maketable\nnot a card", "$ echo three | ./maketable\nnot a cart")),
+    ("a crate without a row", layers, row("digraph", "")),
+    ("a row of a crate that is gone", layers, row("digraph", lambda match: match.group() + "| gone | 1 | 1 | 1 |\n")),
+    ("another count", layers, row("maketable", lambda match: match.group().replace("| 1 |", "| 2 |", 1))),
     ("an output cut off", commands, replace("docs/FORMATS.md", "row 3 : 1024 1024 0 0\n", "")),
 ]
 
@@ -154,6 +188,8 @@ def planted():
 
 def main():
     faults, linked = links(ROOT)
+    uneven, rows = layers(ROOT)
+    faults += uneven
     # the first call of a script builds its program, and says so
     for script in ["./maketable", "./explain"]:
         subprocess.run([script], cwd=ROOT, stdin=subprocess.DEVNULL, stdout=subprocess.DEVNULL, timeout=3600)
@@ -163,7 +199,7 @@ def main():
         print(fault)
     for name in missed:
         print(f"NOT FOUND: {name}")
-    print(f"{linked} links, {run} commands, {len(faults + wrong)} faults; {len(PLANTED)} planted faults, {len(missed)} not found")
+    print(f"{linked} links, {run} commands, {rows} crates, {len(faults + wrong)} faults; {len(PLANTED)} planted faults, {len(missed)} not found")
     sys.exit(bool(faults or wrong or missed or not linked or not run))
 
 

@@ -1,7 +1,7 @@
 #!/bin/sh
 # Tests of the generator from outside: the archive's symbols, the reference's own
-# tests, planted faults, random cards, the comparison with Bison, the table of
-# cases and the program maketable.
+# tests, planted faults, random cards, sums of completed sets, the comparison with
+# Bison, the table of cases and the program maketable.
 #
 #     tests/generator/run.sh
 #
@@ -109,6 +109,7 @@ all() {
     step self-check "$built/release/generator-tests" self-check
     step comparisons-fail comparisons_fail
     step random "$built/release/generator-tests" random
+    step sums "$built/release/generator-tests" sums
     if command -v bison >/dev/null; then
         step bison python3 "$tests/bison/bison.py" check
     else

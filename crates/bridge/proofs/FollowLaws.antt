@@ -15,7 +15,10 @@ use Rattle.lr.proofs.ShortWay.{short-way}
 use Rattle.transitions.specs.Area.{leavesOf, nonterminalOf}
 use Rattle.transitions.specs.Data.{Direct}
 use Rattle.relations.specs.Path.{Leads}
-use Rattle.digraph.specs.Completion.{Reaches, Join, Completed, at}
+use Rattle.sets.specs.Reach.{Reaches}
+use Rattle.completion.specs.Completion.{Join, Completed}
+use Rattle.sets.specs.Reach.Reaches.{here, step}
+use Rattle.digraph.specs.Walked.{at}
 use Rattle.lookaheads.specs.LooksBack.{LooksBack}
 use Rattle.bridge.specs.Premises.{Followed, transitionOf}
 use Rattle.bridge.proofs.Numbering.{card-formed, card-productive}
@@ -29,18 +32,18 @@ module _ {A : Type 0} (node : ℕ → A) (k : ℕ) (E : ℕ → ℕ → Type 0) 
     (listed : (a b : A) → R a b → (j : ℕ) × (j < k) × (node j ≡ b))
     (F F′ : ℕ → ℕ) (S : A → ℕ → Type 0) (sets : (i m : ℕ) → i < k → Has (F i) m ↔ S (node i) m) (done : Completed E k F F′) where
   up : {i j m : ℕ} → i < k → Reaches E i j → Has (F j) m → Union R S (node i) m
-  up {i} {m = m} h Reaches.here b = union Relations.here (sets i m h .0 b)
-  up {i} h (Reaches.step x s) b = go (edge i _ h (inside i _ x) .0 x) (up (inside i _ x) s b)
+  up {i} {m = m} h here b = union here (sets i m h .0 b)
+  up {i} h (step x s) b = go (edge i _ h (inside i _ x) .0 x) (up (inside i _ x) s b)
     where
       go : {a b : A} {m : ℕ} → R a b → Union R S b m → Union R S a m
-      go r (union s f) = union (Relations.step r s) f
+      go r (union s f) = union (step r s) f
 
-  down : {a b : A} {m : ℕ} → Relations.Reaches R a b → S b m → (i : ℕ) → i < k → node i ≡ a → Join E F i m
-  down {m = m} Relations.here f i h e = (i, Reaches.here, sets i m h .1 (rw e f))
-  down (Relations.step {a} {b} r s) f i h e =
+  down : {a b : A} {m : ℕ} → Reaches R a b → S b m → (i : ℕ) → i < k → node i ≡ a → Join E F i m
+  down {m = m} here f i h e = (i, here, sets i m h .1 (rw e f))
+  down (step {a} {b} r s) f i h e =
       let t = listed a b r in
       let j = down s f (t .0) (t .1) (t .2) in
-      (j .0, Reaches.step (edge i (t .0) h (t .1) .1 (rw (e, t .2) r)) (j .1), j .2)
+      (j .0, step (edge i (t .0) h (t .1) .1 (rw (e, t .2) r)) (j .1), j .2)
 
   pub union-is : (i m : ℕ) → i < k → Has (F′ i) m ↔ Union R S (node i) m
   union-is i m h = (λ b. (let j = done .only i m h b in up h (j .1) (j .2)), λ u. done .all i m h (go u))

@@ -14,7 +14,8 @@ use Rattle.transitions.specs.Area.{leavesOf, nonterminalOf}
 use Rattle.transitions.specs.Data.{Data, Holds, Direct}
 use Rattle.relations.specs.Edge.{Edge}
 use Rattle.relations.specs.declared.Relation.the-variants as relation
-use Rattle.digraph.specs.Completion.{Completed, at}
+use Rattle.completion.specs.Completion.{Completed}
+use Rattle.digraph.specs.Walked.{at}
 
 -- the n states of the card c have the transitions `next`: none of the refusals 4 to 11 applies
 pub record Stated (c : List ℕ) (n : ℕ) (next : ℕ → ℕ → ℕ) : Type 0 where

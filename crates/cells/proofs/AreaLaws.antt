@@ -1,7 +1,7 @@
 -- Zeros behind what stands in front, at any width of number; the header; and a table area as one list.
-use Prim.Native.Nat.{ℕ, suc, _+_, _*_, _-_, _≤_, _<_}
+use Prim.Native.Nat.{ℕ, suc, _+_, _-_, _≤_, _<_}
 use mathlib.Core.Path.{_≡_, refl, sym, ap, _∙_, subst}
-use mathlib.Core.Logic.{_⊎_, inl, inr, ⊎-elim}
+use mathlib.Core.Logic.{_⊎_, ⊎-elim}
 use mathlib.Core.List.{List, [], _∷_, _++_, append-assoc}
 use native.Mathlib.Omega.{arith}
 use native.Mathlib.Nat.{le-refl}
@@ -9,6 +9,7 @@ use native.Mathlib.Numerals.{add-one}
 use lib.ListN.{length, getD, set, take, drop, replicate, length-append, length-drop, length-replicate, length-set, take-append-drop, replicate-append-replicate}
 use lib.Seq.{length-take-le, drop-cons, set-at, getD-take, getD-drop, getD-set-same, getD-set-other, ext-getD}
 use Rattle.sets.proofs.HasLaws.{lt-or-ge}
+use Rattle.sets.proofs.CoveredLaws.{covered-length}
 use Rattle.grammar.specs.Card as card
 use Rattle.tables.specs.Layout.{states, terminals, nonterminals, productions, width, leftAt, lengthAt, headerSize, leftOf, lengthOf, cellOf, sizeOf, build}
 use Rattle.areas.specs.Areas.{tableSize, rowOf}
@@ -19,15 +20,6 @@ use Rattle.sets.specs.Lists.{covered}
 use Rattle.cells.specs.Areas.{tableArea, Arrays, Header, Tabled}
 
 -- ---- zeros
-
-pub covered-length : (n : ℕ) (l area : List ℕ) → length l ≤ n → n ≤ length area → length (covered n l area) ≡ length area
-unfolding covered
-covered-length n l area h k =
-    let a : length {A = ℕ} (l ++ (replicate (n - length l) 0 ++ drop n area)) ≡ length l + length {A = ℕ} (replicate (n - length l) 0 ++ drop n area) = length-append l (replicate (n - length l) 0 ++ drop n area) in
-    let b : length {A = ℕ} (replicate (n - length l) 0 ++ drop n area) ≡ length {A = ℕ} (replicate (n - length l) 0) + length (drop n area) = length-append (replicate (n - length l) 0) (drop n area) in
-    let d : length {A = ℕ} (replicate {A = ℕ} (n - length l) 0) ≡ n - length l = length-replicate {A = ℕ} (n - length l) 0 in
-    let e : length (drop n area) ≡ length area - n = length-drop n area in
-    omega arith
 
 -- nothing but the front so far
 pub covered-none : (a : ℕ) (t : List ℕ) → a ≤ length t → t ≡ covered a (take a t) t

@@ -1,28 +1,24 @@
 -- The numbers of a state by its words: where two meet, the two lowest, and what is written.
-use Prim.Native.Nat.{ℕ, suc, _+_, _-_, _≤_, _<_, _^_}
+use Prim.Native.Nat.{ℕ, _+_, _-_, _≤_, _<_, _^_}
 use mathlib.Core.Path.{_≡_, refl, sym, ap, _∙_, subst}
-use mathlib.Core.Bool.{Bool, true, false, _&&_, true≢false, false≢true}
+use mathlib.Core.Bool.{Bool, true, false, _&&_, true≢false}
 use mathlib.Core.Logic.{_↔_, _≢_, _⊎_, inl, inr, ⊎-elim}
 use mathlib.Core.List.{List}
 use native.Mathlib.Omega.{arith}
-use native.Mathlib.Nat.{eq-or-lt-of-le, le-of-suc-le-suc, lt-of-le-of-lt}
-use native.Mathlib.Decide.{ℕ-discrete}
+use native.Mathlib.Nat.{lt-of-le-of-lt}
 use lib.ListN.{length, getD, set, length-set}
 use lib.Seq.{getD-set-same, getD-set-other}
 use lib.Bits.{bitOr, bitAnd, and-le-l}
 use lib.Count.{trailingZeros}
 use Rattle.sets.specs.Bit.{bit}
-use Rattle.sets.proofs.TestLaws.{and-both, and-true}
+use Rattle.sets.proofs.TestLaws.{and-both}
 use Rattle.sets.proofs.BitLaws.{bit-and, bit-zero, lowest-in, lowest-lt}
-use Rattle.sets.proofs.HasLaws.{lt-or-ge, has-or, or-has-l, or-has-r, has-none, cleared, clear-cases}
+use Rattle.sets.proofs.HasLaws.{lt-or-ge, below-suc, has-or, or-has-l, or-has-r, has-none, cleared, clear-cases}
 use Rattle.tables.specs.Conflicts.{Single, Lowest}
 use Rattle.cells.specs.Actions.{IsCell}
 use Rattle.cells.specs.Words.{Numbers, Live, Next, Two, Sought, found, missing, Put, Written, kept, reduced, accepted, Row}
 
 -- ---- below r + 1, and tests
-
-pub below-suc : (k r : ℕ) → k < r + 1 → (k < r) ⊎ (k ≡ r)
-below-suc k r h = ⊎-elim inl (λ g. inr (omega arith)) (lt-or-ge k r)
 
 pub decided : (b : Bool) → (b ≡ true) ⊎ (b ≡ false)
 decided true = inl refl
@@ -155,7 +151,7 @@ module _ (s : ℕ) (words : List ℕ) (m : ℕ) where
 
   one-cases : (r : ℕ) {u : ℕ} → Numbers (r + 1) s words 0 m u → Numbers r s words 0 m u ⊎ ((u ≡ 1024 + r) × (bit (getD words r 0) m ≡ true))
   one-cases r (Numbers.shifts h) = inl (Numbers.shifts h)
-  one-cases r (Numbers.reduces k b h) = ⊎-elim (λ l. inl (Numbers.reduces k l h)) (λ e. inr (ap (λ (x : ℕ). 1024 + x) e, subst (λ (x : ℕ). bit (getD words x 0) m ≡ true) e h)) (below-suc k r b)
+  one-cases r (Numbers.reduces k b h) = ⊎-elim (λ l. inl (Numbers.reduces k l h)) (λ e. inr (ap (λ (x : ℕ). 1024 + x) e, subst (λ (x : ℕ). bit (getD words x 0) m ≡ true) e h)) (below-suc b)
   one-cases r (Numbers.accepts h) = inl (Numbers.accepts h)
 
   module _ (small : s < 1024) where
@@ -193,7 +189,7 @@ Gap words m start r = (k : ℕ) → start ≤ k → k < r → bit (getD words k 
 
 pub gap-more : (words : List ℕ) (m start r : ℕ) (b : Bool) → b ≡ bit (getD words r 0) m → b ≡ false → Gap words m start r → Gap words m start (r + 1)
 gap-more words m start r b e f gap k h l x =
-    ⊎-elim (λ g. gap k h g x) (λ (g : k ≡ r). true≢false (sym x ∙ ap (λ (i : ℕ). bit (getD words i 0) m) g ∙ sym e ∙ f)) (below-suc k r l)
+    ⊎-elim (λ g. gap k h g x) (λ (g : k ≡ r). true≢false (sym x ∙ ap (λ (i : ℕ). bit (getD words i 0) m) g ∙ sym e ∙ f)) (below-suc l)
 
 pub sought-least : {p : ℕ} {words : List ℕ} {m start a : ℕ} → Sought p words m start a → 1024 ≤ a
 sought-least (found r b k h gap) = omega arith
@@ -342,7 +338,7 @@ module _ (b : ℕ) (words : List ℕ) (t : List ℕ) where
   row-none = record { long = refl; cells = λ m. kept (λ r h. absurd (omega arith)) (bit-zero m); before = λ i h. refl }
 
   old-row : (r s m : ℕ) {v : ℕ} → bit (getD words r 0) m ≡ false → Written r s words 0 m v → Written (r + 1) s words 0 m v
-  old-row r s m e (kept h k) = kept (λ i l. ⊎-elim (h i) (λ (f : i ≡ r). subst (λ (x : ℕ). bit (getD words x 0) m ≡ false) (sym f) e) (below-suc i r l)) k
+  old-row r s m e (kept h k) = kept (λ i l. ⊎-elim (h i) (λ (f : i ≡ r). subst (λ (x : ℕ). bit (getD words x 0) m ≡ false) (sym f) e) (below-suc l)) k
   old-row r s m e (reduced i l h) = reduced i (omega arith) h
   old-row r s m e (accepted h) = accepted h
 

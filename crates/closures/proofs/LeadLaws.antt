@@ -4,7 +4,6 @@ use mathlib.Core.List.{List}
 use mathlib.Core.Logic.{_⊎_, inl, inr, ⊎-elim}
 use mathlib.Core.Path.{_≡_, refl, sym, ap, _∙_}
 use Prim.Native.Nat.{ℕ, _+_, _-_, _*_, _%_, _^_, _≤_, _<_}
-use native.Mathlib.Decide.{ℕ-discrete}
 use native.Mathlib.Nat.{not-suc-le-zero, le-refl}
 use native.Mathlib.Omega.{arith}
 use lib.Bits.{bitOr}
@@ -21,7 +20,7 @@ use Rattle.grammar.proofs.CardLaws.{WellFormed}
 use Rattle.grammar.specs.Card.{terminals, nonterminals, productions, leftOf}
 use Rattle.items.specs.Item.{item, Put, Empty}
 use Rattle.sets.proofs.BitLaws.{bit-or, bit-zero, bit-pow, one-shl}
-use Rattle.sets.proofs.HasLaws.{lt-or-ge, or-cases, or-left, or-right, has-one, one-has, has-or, or-has-l, or-has-r}
+use Rattle.sets.proofs.HasLaws.{lt-or-ge, eq-or, or-cases, or-left, or-right, has-one, one-has, has-or, or-has-l, or-has-r}
 use Rattle.sets.specs.Bit.{bit}
 
 leads-then : (c : List ℕ) (j m k : ℕ) → Leads c j m → Leads c m k → Leads c j k
@@ -79,7 +78,7 @@ begun-take c w r x t j m f b h ex et l ej em =
           (λ n.
           ⊎-elim (λ (u : q < r). rw (other (leftOf c q - terminals c) n) (b .all q k u e))
           (λ (u : r ≤ q). absurd (n (ap (λ (i : ℕ). leftOf c i - terminals c) (let y : q ≡ r = omega arith in y) ∙ sym ej))) (lt-or-ge q r))
-          (same-or-not (leftOf c q - terminals c) j);
+          (eq-or (leftOf c q - terminals c) j);
       from = λ i k e.
           ⊎-elim
           (λ (y : i ≡ j).
@@ -88,15 +87,8 @@ begun-take c w r x t j m f b h ex et l ej em =
           (λ u. let z : m ≡ k = eqb-true m k u in next j r k (own j refl) h (omega arith) (sym ex ∙ omega arith))
           (or-cases (bit (getD w j 0) k) (eqb m k) (sym (here k) ∙ rw y at e))))
           (λ n. b .from i k (rw (other i n) at e))
-          (same-or-not i j);
+          (eq-or i j);
     })
-  where
-    same-or-not : (m n : ℕ) → (m ≡ n) ⊎ (m ≡ n → ⊥)
-    same-or-not m n = go (ℕ-discrete m n)
-      where
-        go : Dec (m ≡ n) → (m ≡ n) ⊎ (m ≡ n → ⊥)
-        go (yes e) = inl e
-        go (no e) = inr e
 
 -- ---- one more nonterminal to go through
 

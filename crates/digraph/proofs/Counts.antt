@@ -9,7 +9,7 @@ use lib.Dec.{eqb}
 use borrow.Author.Tests.{eqb-true, eq-eqb, ne-eqb}
 use Rattle.sets.specs.Bit.{count, one-if}
 use Rattle.sets.proofs.CountLaws.{count-le}
-use Rattle.transitions.proofs.WriteLaws.{eq-or}
+use Rattle.sets.proofs.HasLaws.{eq-or}
 use Rattle.digraph.specs.Walk.{unvisited}
 
 pub unvisited-le : (num : ℕ → ℕ) (k : ℕ) → unvisited num k ≤ k

@@ -1,4 +1,4 @@
 pub mod Theory
 pub mod Counts
 pub mod Steps
-pub mod Laws
+pub mod Sums

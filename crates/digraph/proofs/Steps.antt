@@ -10,12 +10,13 @@ use lib.Seq.{getD-set-same, getD-set-other}
 use Rattle.sets.specs.Bit.{Has}
 use Rattle.areas.specs.Areas.{wordsSize}
 use Rattle.transitions.specs.Places.{transitionLimit, numbersAt, stackAt, shiftsAt}
-use Rattle.transitions.proofs.WriteLaws.{eq-or}
-use Rattle.digraph.specs.Completion.{Completed, at}
-use Rattle.digraph.specs.Completion.Reaches.{here}
+use Rattle.sets.proofs.HasLaws.{below-suc, eq-or}
+use Rattle.completion.specs.Completion.{Completed}
+use Rattle.digraph.specs.Walked.{at}
+use Rattle.sets.specs.Reach.Reaches.{here}
 use Rattle.digraph.specs.Walk.{Room, Kept, Entered, Visited, Scanned, Popped, Finished, Cleared, None, unvisited, numIn, stkIn, Inv, Frame, Ended, Scan, InvIn, ScanIn, FrameIn}
 use Rattle.digraph.proofs.Theory as theory
-use Rattle.digraph.proofs.Theory.{below-suc, frame-refl, frame-trans}
+use Rattle.digraph.proofs.Theory.{frame-refl, frame-trans}
 use Rattle.digraph.proofs.Counts.{unvisited-le, unvisited-mono, unvisited-less}
 
 -- ---- two stores: at i, then at j

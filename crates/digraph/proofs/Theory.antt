@@ -5,16 +5,13 @@ use Prim.Native.Nat.{ℕ, zero, suc, _+_, _-_, _≤_, _<_, min}
 use native.Mathlib.Omega.{arith}
 use lib.Bits.{bitOr}
 use Rattle.sets.specs.Bit.{Has}
-use Rattle.sets.proofs.HasLaws.{lt-or-ge, has-or, or-has-l, or-has-r}
+use Rattle.sets.proofs.HasLaws.{lt-or-ge, below-suc, eq-or, has-or, or-has-l, or-has-r}
 use Rattle.transitions.specs.Places.{transitionLimit}
-use Rattle.transitions.proofs.WriteLaws.{eq-or}
-use Rattle.digraph.specs.Completion.{Reaches, Join}
-use Rattle.digraph.specs.Completion.Reaches.{here, step}
+use Rattle.sets.specs.Reach.{Reaches}
+use Rattle.completion.specs.Completion.{Join}
+use Rattle.sets.specs.Reach.Reaches.{here, step}
+use Rattle.completion.proofs.Laws.{reaches-trans, join-reaches}
 use Rattle.digraph.specs.Walk.{Inv, Covered, Segment, None, Frame, Scan, Ended, Met}
-
--- below d + 1 is below d, or is d
-pub below-suc : {p d : ℕ} → p < d + 1 → (p < d) ⊎ (p ≡ d)
-below-suc {p} {d} h = ⊎-elim (λ l. inl l) (λ g. inr (omega arith)) (lt-or-ge p d)
 
 pub frame-refl : {num stk F : ℕ → ℕ} {d : ℕ} → Frame num stk F num stk F d
 frame-refl = record { stack = λ p h. refl; number = λ p h. refl; set = λ p h. refl }
@@ -25,14 +22,6 @@ frame-trans {num1} {F1} {num2} {F2} {d} {e} de a c = record {
   number = λ p h. ap num2 (sym (a .stack p (omega arith))) ∙ c .number p h ∙ ap num1 (a .stack p (omega arith)) ∙ a .number p (omega arith);
   set = λ p h. ap F2 (sym (a .stack p (omega arith))) ∙ c .set p h ∙ ap F1 (a .stack p (omega arith)) ∙ a .set p (omega arith);
 }
-
-module _ (E : ℕ → ℕ → Type 0) where
-  pub reaches-trans : {a b c : ℕ} → Reaches E a b → Reaches E b c → Reaches E a c
-  reaches-trans here r = r
-  reaches-trans (step e q) r = step e (reaches-trans q r)
-
-  pub join-reaches : {v w : ℕ} (F : ℕ → ℕ) (m : ℕ) → Reaches E v w → Join E F w m → Join E F v m
-  join-reaches F m r j = (j .0, reaches-trans r (j .1), j .2)
 
 module _ (E : ℕ → ℕ → Type 0) (k : ℕ) (start : ℕ → ℕ) where
   -- ---- segments
@@ -217,7 +206,7 @@ module _ (E : ℕ → ℕ → Type 0) (k : ℕ) (start : ℕ → ℕ) where
           (λ q. I .found v h (λ z. a (no v h q ∙ z)) (λ z. c (no v h q ∙ z))) (eq-or v x);
       sound = λ v m h i. ⊎-elim
           (λ q. subst (λ (z : ℕ). Join E start z m) (sym q)
-          (⊎-elim (λ j. I .sound x m xk j) (λ j. join-reaches E start m (step xy here) (I .sound y m yk j)) (has-or (F1 x) (F1 y) m (subst (λ (z : ℕ). Has z m) (ap F2 q ∙ fx) i))))
+          (⊎-elim (λ j. I .sound x m xk j) (λ j. join-reaches start m (step xy here) (I .sound y m yk j)) (has-or (F1 x) (F1 y) m (subst (λ (z : ℕ). Has z m) (ap F2 q ∙ fx) i))))
           (λ q. I .sound v m h (subst (λ (z : ℕ). Has z m) (fo v h q) i)) (eq-or v x);
       starts = λ v m h i. ⊎-elim
           (λ q. subst (λ (z : ℕ). Has z m) (sym (ap F2 q ∙ fx)) (or-has-l (F1 x) (F1 y) m (subst (λ (z : ℕ). Has (F1 z) m) q (I .starts v m h i))))
@@ -275,12 +264,12 @@ module _ (E : ℕ → ℕ → Type 0) (k : ℕ) (start : ℕ → ℕ) where
       to-x : (f p : ℕ) → p < f → b ≤ p → p < d → Reaches E (stk p) x
       to-x zero p h g i = absurd (omega arith)
       to-x (suc f) p h g i =
-          ⊎-elim (λ l. let q = S .seg .back p (omega arith) i in reaches-trans E (q .3) (to-x f (q .0) (omega (arith, q .1)) (omega (arith, q .2)) (omega (arith, q .1))))
+          ⊎-elim (λ l. let q = S .seg .back p (omega arith) i in reaches-trans (q .3) (to-x f (q .0) (omega (arith, q .1)) (omega (arith, q .2)) (omega (arith, q .1))))
           (λ l. let q : p ≡ b = omega arith in subst (λ (z : ℕ). Reaches E (stk p) z) (ap stk q ∙ S .this) here) (lt-or-ge b p)
 
       in-x : {v u : ℕ} (m : ℕ) → Reaches E v u → (p : ℕ) → b ≤ p → p < d → stk p ≡ v → Has (start u) m → Has (F x) m
       in-x {v} m here p h g e i = S .seg .within p m h g (subst (λ (z : ℕ). Has (F z) m) (sym e) (S .inv .starts v m (subst (λ (z : ℕ). z < k) e (S .inv .node p g)) i))
-      in-x m (step {w = w} {u = u} ed r) p h g e i =
+      in-x m (step {b = w} {c = u} ed r) p h g e i =
           ⊎-elim (λ j. j m (u, r, i)) (λ q. in-x m r (q .0) (omega (arith, q .3)) (q .1) (q .2) i)
           (S .seg .edges p w h g (subst (λ (z : ℕ). E z w) (sym e) ed) (λ _ a. a))
 
@@ -321,7 +310,7 @@ module _ (E : ℕ → ℕ → Type 0) (k : ℕ) (start : ℕ → ℕ) where
               (λ s. let r = S .inv .found v h (λ z. a (kept v h s .0 ∙ z)) (λ z. c (kept v h s .0 ∙ z)) in
               ⊎-elim (λ l. (r .0, l, r .2)) (λ l. absurd (s (r .0) l (r .1) (r .2))) (lt-or-ge (r .0) b)) (is-within v h);
           sound = λ v m h i. ⊎-elim
-              (λ s. join-reaches E start m (subst (λ (z : ℕ). Reaches E z x) (s .3) (to-x (suc (s .0)) (s .0) (omega arith) (s .1) (s .2)))
+              (λ s. join-reaches start m (subst (λ (z : ℕ). Reaches E z x) (s .3) (to-x (suc (s .0)) (s .0) (omega arith) (s .1) (s .2)))
               (S .inv .sound x m (subst (λ (z : ℕ). z < k) (S .this) (S .inv .node b (S .here))) (subst (λ (z : ℕ). Has z m) (f-in s) i)))
               (λ s. S .inv .sound v m h (subst (λ (z : ℕ). Has z m) (kept v h s .1) i)) (is-within v h);
           starts = λ v m h i. ⊎-elim

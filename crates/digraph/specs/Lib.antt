@@ -1,2 +1,3 @@
-pub mod Completion
+pub mod Walked
+pub mod Sums
 pub mod Walk

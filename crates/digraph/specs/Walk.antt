@@ -11,7 +11,9 @@ use lib.ListN.{length}
 use Rattle.sets.specs.Bit.{Has, count}
 use Rattle.areas.specs.Areas.{wordsSize}
 use Rattle.transitions.specs.Places.{transitionLimit, numbersAt, stackAt, shiftsAt}
-use Rattle.digraph.specs.Completion.{Reaches, Join, at}
+use Rattle.sets.specs.Reach.{Reaches}
+use Rattle.completion.specs.Completion.{Join}
+use Rattle.digraph.specs.Walked.{at}
 
 -- how many of the nodes 0, .., k - 1 are not visited
 unfoldable pub unvisited : (ℕ → ℕ) → ℕ → ℕ

@@ -10,7 +10,7 @@ ghost use Rattle.areas.specs.Areas.{wordsSize};
 ghost use Rattle.transitions.specs.Places.{transitionLimit, numbersAt, stackAt};
 ghost use Rattle.transitions.specs.Data.{Ordered};
 ghost use Rattle.relations.specs.Edge.{Edge};
-ghost use Rattle.digraph.specs.Completion.{Walked, at};
+ghost use Rattle.digraph.specs.Walked.{Walked, at};
 ghost use Rattle.digraph.specs.Walk.{Room, Entered, Visited, Scanned, Popped, Finished, Cleared, None, numIn, stkIn};
 use relations::Relation;
 

@@ -102,7 +102,7 @@ module _ (t₀ z₀ w₀ c : List ℕ) where
       module _ (w z₁ z : List ℕ) (k e : ℕ) (count : k ≡ transitionCount c (nextOf c t n) n) (small : k ≤ transitionLimit) (data′ : Data c w n k e (nextOf c t n))
           (null : (j : ℕ) → j < nonterminals c → Tells (bit e j) (Derives (grammarOf c) ((terminals c + j) ∷ []) [])) (co : Complete c w n k (nextOf c t n) z₁ z) where
         followed : Followed c w n k e (nextOf c t n) z
-        followed = record { stated = stated; listed = data′; nullable = null; begun = co .begun; between = co .between; direct = co .direct; reads = co .reads; includes = co .includes }
+        followed = record { stated = stated; listed = data′; nullable = null; begun = co .begun; between = co .walks .between; direct = co .direct; reads = co .walks .first .sets; includes = co .walks .second .sets }
 
         sized : Sized (grammarOf c) n (nextOf c t n)
         sized = record { useful = u; states = stated .states; few = few; narrow = rw (transition-count c (nextOf c t n) n) at (rw count at small) }

@@ -9,7 +9,7 @@ use Rattle.transitions.specs.Places.{shiftsAt}
 use Rattle.transitions.specs.Data.{Holds, Direct, Shifts}
 use Rattle.relations.specs.Edge.{Edge}
 use Rattle.relations.specs.declared.Relation.the-variants as relation
-use Rattle.digraph.specs.Completion.{Completed, at}
+use Rattle.digraph.specs.Walked.{BothWalked}
 
 -- all three areas are zero over the lengths given
 pub record Cleared (t z w t′ z′ w′ : List ℕ) : Type 0 where
@@ -20,10 +20,8 @@ pub record Cleared (t z w t′ z′ w′ : List ℕ) : Type 0 where
 -- the sets of the k transitions after both walks, from the direct reads; and the terminals that each of the n states shifts
 pub record Complete (c w : List ℕ) (n k : ℕ) (next : ℕ → ℕ → ℕ) (z₀ z : List ℕ) : Type 0 where
   pub begun : List ℕ
-  pub between : List ℕ
   pub direct : (i : ℕ) → i < k → Holds (getD begun i 0) (Direct c w next i)
-  pub reads : Completed (Edge relation.Reads c w k) k (at begun) (at between)
-  pub includes : Completed (Edge relation.Includes c w k) k (at between) (at z)
+  pub walks : BothWalked (Edge relation.Reads c w k) (Edge relation.Includes c w k) k begun z
   pub shifts : (q : ℕ) → q < n → Holds (getD z (shiftsAt + q) 0) (Shifts c next q)
   pub beyond : (i : ℕ) → wordsSize ≤ i → getD z i 0 ≡ getD z₀ i 0
   pub long : length z ≡ length z₀

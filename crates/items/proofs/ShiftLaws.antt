@@ -17,18 +17,14 @@ use Rattle.items.proofs.NextLaws.{item-word}
 use Rattle.items.specs.Item.{itemLimit, setSize, item, Shifted}
 use Rattle.sets.proofs.BitLaws.{bit-or, bit-and, bit-low, bit-suc, bit-zero, bit-above, bit-not, bit-shr}
 use Rattle.sets.proofs.HasLaws.{lt-or-ge, or-cases, or-left, or-right}
-use Rattle.sets.proofs.TestLaws.{and-true, and-both}
+use Rattle.sets.proofs.TestLaws.{and-true, and-both, and-one}
 use Rattle.sets.specs.Bit.{bit}
 
 -- the lower digits stay where the upper ones are cut off
 pub bit-mod : (k s m : ℕ) → m < k → bit (s % 2 ^ k) m ≡ bit s m
 bit-mod k s m h =
     let all : bit (2 ^ k - 1) m ≡ true = ap (λ (x : ℕ). bit x m) (sym (sub-zero (2 ^ k - 1))) ∙ bit-not k 0 m (pow-pos k) h ∙ ap not (bit-zero m) in
-    ap (λ (x : ℕ). bit x m) (sym (and-mask s k)) ∙ bit-and s (2 ^ k - 1) m ∙ ap (λ (x : Bool). bit s m && x) all ∙ and-true-r (bit s m)
-  where
-    and-true-r : (p : Bool) → (p && true) ≡ p
-    and-true-r true = refl
-    and-true-r false = refl
+    ap (λ (x : ℕ). bit x m) (sym (and-mask s k)) ∙ bit-and s (2 ^ k - 1) m ∙ ap (λ (x : Bool). bit s m && x) all ∙ and-one (bit s m)
 
 -- the machine's `v << 1`, at a width of k digits
 pub shl-low : (k v : ℕ) → 0 < k → bit ((v * 2 ^ 1) % 2 ^ k) 0 ≡ false

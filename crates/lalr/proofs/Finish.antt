@@ -1,24 +1,23 @@
 -- How a program shows that its answer and areas are the defined ones: by what it found, in the words of Meaning.antt, and place by place.
 use mathlib.Core.Path.{_≡_, refl, sym, ap, _∙_}
-use mathlib.Core.Bool.{Bool, true, false, cond}
-use mathlib.Core.List.{List, [], _∷_, _++_}
+use mathlib.Core.Bool.{true, false}
+use mathlib.Core.List.{List, [], _++_}
 use Prim.Native.Nat.{ℕ, _+_, _-_, _≤_, _<_}
 use native.Mathlib.Omega.{arith}
 use native.Mathlib.Decide.{decLt}
-use lib.ListN.{length, getD, drop, replicate, length-append, length-replicate, List·getD-append, getD-replicate}
+use lib.ListN.{length, getD, drop, replicate, length-replicate, List·getD-append, getD-replicate}
 use lib.Seq.{ext-getD, getD-append-add, getD-drop}
-use lib.Dec.{ltb}
 use borrow.Author.Tests.{lt-ltb, le-ltb}
 use Rattle.grammar.specs.Card.{formFault, grammarOf}
 use Rattle.lr.specs.Cells.{Table}
 use Rattle.sets.specs.Lists.{covered}
 use Rattle.areas.specs.Areas.{tableSize, wordsSize, halvesSize}
-use Rattle.lalr.specs.Answer.{Answer, made, refused, Generated}
+use Rattle.lalr.specs.Answer.{Answer, made, refused}
 use Rattle.lalr.specs.ComputedAnswer.{cardAnswer, tableOf}
 use Rattle.lalr.specs.ComputedGenerator.{answerOf, writes, tableLeft, generated}
 use Rattle.lalr.specs.Meaning.{Judged}
 pub use Rattle.lalr.specs.Demand2.{Room}
-use Rattle.lalr.proofs.AreaLaws.{covered-length}
+use Rattle.sets.proofs.CoveredLaws.{covered-length}
 use Rattle.lalr.proofs.Main.{card-answer, only-table}
 
 -- ---- the areas

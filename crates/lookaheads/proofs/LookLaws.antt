@@ -1,7 +1,7 @@
 -- The lookaheads of a production in a state: joined over the states from which its right side leads there.
-use Prim.Native.Nat.{ℕ, suc, _+_, _-_, _*_, _/_, _%_, _≤_, _<_, _^_}
+use Prim.Native.Nat.{ℕ, suc, _+_, _-_, _*_, _/_, _%_, _≤_, _<_}
 use mathlib.Core.Path.{_≡_, refl, sym, ap, ap₂, _∙_, subst}
-use mathlib.Core.Bool.{Bool, true, false, not, _&&_, true≢false, false≢true}
+use mathlib.Core.Bool.{true, false, not, _&&_, true≢false, false≢true}
 use mathlib.Core.Logic.{_≢_, _⊎_, inl, inr, ⊎-elim}
 use mathlib.Core.List.{List}
 use native.Mathlib.Omega.{arith}
@@ -11,7 +11,7 @@ use lib.Seq.{getD-set-same, getD-set-other}
 use lib.Bits.{bitOr}
 use borrow.Author.Tests.{eq-eqb}
 use Rattle.sets.specs.Bit.{bit}
-use Rattle.sets.proofs.HasLaws.{lt-or-ge, or-left, or-right, has-none, has-one, one-has, has-or, or-has-l, or-has-r}
+use Rattle.sets.proofs.HasLaws.{lt-or-ge, below-suc, or-left, or-right, has-none, has-one, one-has, has-or, or-has-l, or-has-r}
 use Rattle.items.specs.Item.{item, put}
 use Rattle.items.proofs.ItemLaws.{item-put}
 use Rattle.grammar.specs.Card.{productions, leftOf, lengthOf, symbolOf, startOf, formFault}
@@ -19,16 +19,16 @@ use Rattle.grammar.proofs.CardLaws.{well-formed}
 use Rattle.state_sets.specs.Words.{Lowest}
 use Rattle.state_sets.proofs.WordLaws.{out-in, out-or}
 use Rattle.transitions.specs.Places.{transitionLimit}
-use Rattle.transitions.specs.Area.{leavesOf, nonterminalOf, firstOf, enteringOf, startingOf}
+use Rattle.transitions.specs.Area.{leavesOf, nonterminalOf, firstOf, enteringOf}
 use Rattle.transitions.specs.Occurrences.{symbolAt}
-use Rattle.transitions.specs.Data.{Ordered, Enters, Holds}
+use Rattle.transitions.specs.Data.{Ordered, Holds}
 use Rattle.relations.specs.Path.{Path, Leads, States}
 use Rattle.relations.specs.Path.Path.{here, step}
 use Rattle.relations.specs.Steps.{Index}
 use Rattle.transitions.proofs.SymbolLaws.{symbol-is, symbol-high}
 use Rattle.relations.proofs.PathLaws.{path-end}
 use Rattle.cells.specs.Words.{Live, Next}
-use Rattle.cells.proofs.WordLaws.{below-suc, decided}
+use Rattle.cells.proofs.WordLaws.{decided}
 use Rattle.lookaheads.specs.LooksBack.{LooksBack}
 use Rattle.lookaheads.specs.Joins.{Follows, Joins, Key, Keyed, Added, Candidates, Accepts}
 
@@ -178,7 +178,7 @@ keyed-more c s r v i a e h old r′ v′ l b =
     (λ (g : r′ ≡ r).
     let u : v ≡ v′ = key-one c r v v′ a (subst (λ (y : ℕ). Key c y v′) g b) in
     or-right (item s (128 * v′ + r′)) (eqb i (128 * v′ + r′)) (eq-eqb i (128 * v′ + r′) (omega arith)))
-    (below-suc r′ r l)
+    (below-suc l)
 
 -- two words more
 module _ (keyed s : List ℕ) (v i : ℕ) (two : length s ≡ 2) (e : i ≡ 2 * v) where
@@ -240,7 +240,7 @@ module _ (w keyed : List ℕ) (q i x : ℕ) where
         (λ (z : j ≡ i).
         let u : nonterminalOf w j ≡ x = ap (nonterminalOf w) z ∙ sym ex in
         a r h (inr (omega arith, subst (λ (u : ℕ). item keyed (128 * (128 + u) + r) ≡ true) u y)))
-        (below-suc j i m);
+        (below-suc m);
   }
 
 pub gathered-end : (c w keyed : List ℕ) (k q i end : ℕ) (s : List ℕ) → Ordered c w k → Keyed c keyed (productions c) → end ≡ firstOf w (q + 1) → end ≤ i → Gathered w keyed q i s → Candidates c w k q s
@@ -280,7 +280,7 @@ module _ (live s : List ℕ) (n r v : ℕ) (here : item live r ≡ true) (h : r 
       ⊎-elim
       (λ (a : i < r). subst (P i) (sym (getD-set-other s r i v 0 (λ e. omega arith))) (old i a y))
       (λ (a : i ≡ r). subst (λ (y : ℕ). P y (getD (set s r v) y 0)) (sym a) (subst (P r) (sym (getD-set-same s r v 0 fits)) p))
-      (below-suc i r a))
+      (below-suc a))
       (λ (a : r + 1 ≤ i). absurd (true≢false (sym y ∙ x .gap i a l)))
       (lt-or-ge i (r + 1))
 

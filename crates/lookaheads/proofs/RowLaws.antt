@@ -1,16 +1,16 @@
 -- Rows of cells: what the words of a state say of its numbers, and the rows written so far.
 use Prim.Native.Nat.{ℕ, _+_, _-_, _≤_, _<_}
-use mathlib.Core.Path.{_≡_, refl, sym, ap, ap₂, _∙_, subst}
-use mathlib.Core.Bool.{Bool, true, false, true≢false, false≢true}
-use mathlib.Core.Logic.{_↔_, _≢_, _⊎_, inl, inr, ⊎-elim}
+use mathlib.Core.Path.{_≡_, refl, sym, ap, _∙_, subst}
+use mathlib.Core.Bool.{Bool, true, false, true≢false}
+use mathlib.Core.Logic.{_↔_, _≢_, _⊎_, ⊎-elim}
 use mathlib.Core.List.{List, []}
 use native.Mathlib.Omega.{arith}
 use native.Mathlib.Decide.{ℕ-discrete}
-use lib.ListN.{length, getD}
+use lib.ListN.{getD}
 use borrow.Author.Tests.{lt-ltb}
 use Rattle.sets.specs.Bit.{bit}
 use Rattle.sets.proofs.BitLaws.{bit-zero}
-use Rattle.sets.proofs.HasLaws.{lt-or-ge}
+use Rattle.sets.proofs.HasLaws.{lt-or-ge, below-suc}
 use Rattle.grammar.specs.Card.{terminals, nonterminals, productions}
 use Rattle.grammar.proofs.CardLaws.{well-formed}
 use Rattle.areas.specs.Areas.{tableSize, rowOf}
@@ -23,7 +23,7 @@ use Rattle.cells.specs.Actions.{Act, IsCell}
 use Rattle.cells.specs.Words.{Numbers, Two, Written, Row}
 use Rattle.sets.specs.Lists.{covered}
 use Rattle.cells.specs.Areas.{tableArea}
-use Rattle.cells.proofs.WordLaws.{below-suc, written-cell}
+use Rattle.cells.proofs.WordLaws.{written-cell}
 use Rattle.cells.proofs.AreaLaws.{covered-same, tabled}
 use Rattle.lookaheads.specs.LooksBack.{LooksBack}
 use Rattle.lookaheads.specs.Joins.{Accepts}
@@ -178,7 +178,7 @@ pub clear-below : (meet m x : ℕ) → x ≤ m → Clear meet m → Clear meet x
 clear-below meet m x h none i l = none i (omega arith)
 
 pub clear-more : (meet m m′ : ℕ) (b : Bool) → m′ ≡ m → b ≡ bit meet m′ → b ≡ false → Clear meet m → Clear meet (m + 1)
-clear-more meet m m′ b e f g h i l = ⊎-elim (h i) (λ (d : i ≡ m). ap (bit meet) (d ∙ sym e) ∙ sym f ∙ g) (below-suc i m l)
+clear-more meet m m′ b e f g h i l = ⊎-elim (h i) (λ (d : i ≡ m). ap (bit meet) (d ∙ sym e) ∙ sym f ∙ g) (below-suc l)
 
 module _ (c t₀ w z : List ℕ) (n k : ℕ) (stage : Stage c t₀ w z n) (o : Ordered c w k) where
   abbrev next : ℕ → ℕ → ℕ
@@ -238,12 +238,12 @@ module _ (c t₀ w z : List ℕ) (n k : ℕ) (stage : Stage c t₀ w z n) (o : O
               ⊎-elim
               (λ (g : p < q). subst (IsCell (Stands c t₀ w z n k p m)) (sym (r .before (rowOf c p + m) (row-below c p q m g (omega arith)))) (done .cells p m g l))
               (λ (e : p ≡ q). subst (λ (x : ℕ). IsCell (Stands c t₀ w z n k x m) (getD t′ (rowOf c x + m) 0)) (sym e) (low m l))
-              (below-suc p q h);
+              (below-suc h);
           others = λ p x h l b.
               ⊎-elim
               (λ (g : p < q). r .before (rowOf c p + x) (row-below c p q x g b) ∙ done .others p x g l b)
               (λ (e : p ≡ q). subst (λ (y : ℕ). getD t′ (rowOf c y + x) 0 ≡ getD t₀ (rowOf c y + x) 0) (sym e) (high x l ∙ done .behind (rowOf c q + x) (omega arith)))
-              (below-suc p q h);
+              (below-suc h);
           behind = λ i h.
               let f = row-next c q in
               let e : rowOf c q + (i - rowOf c q) ≡ i = omega arith in

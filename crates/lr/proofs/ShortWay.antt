@@ -1,17 +1,15 @@
 -- The short way of 001: the lookaheads of the merged sets are its look-ahead sets, the unions of Follow over lookback.
-use Prim.Native.Nat.{ℕ, zero, _<_}
-use mathlib.Core.Path.{_≡_, refl, sym, _∙_}
+use Prim.Native.Nat.{ℕ, _<_}
+use mathlib.Core.Path.{_≡_, refl, _∙_}
 use mathlib.Core.Logic.{_↔_, _≢_, _⊎_, inl, inr}
-use mathlib.Core.List.{List, [], _∷_, _++_}
-use Rattle.grammar.specs.Grammar.{Grammar, Formed, Symbols, Derives}
-use Rattle.grammar.proofs.Yield.{Yields}
+use Rattle.grammar.specs.Grammar.{Grammar, Formed, Symbols}
 use Rattle.grammar.proofs.Derive.{derives-yields, yields-derives}
-use Rattle.lr.specs.Items.{walk, Lookahead}
+use Rattle.sets.specs.Reach.{Reaches}
+use Rattle.lr.specs.Items.{Lookahead}
 use Rattle.lr.specs.States.{States}
 use Rattle.lr.specs.Relations
-use Rattle.lr.specs.Relations.{Reaches, Union, union, Transition, Direct, shifted, ended, Read, Follow, LA}
+use Rattle.lr.specs.Relations.{Union, union, Transition, Direct, shifted, ended, Read, Follow, LA}
 use Rattle.lr.proofs.ItemLaws.{AllProductive}
-use Rattle.lr.proofs.Automaton.{Automaton}
 use Rattle.lr.proofs.Paths.{Has, state-automaton}
 use Rattle.lr.proofs.RelationLaws.{ReadFrom, direct, through, FollowOf, ends, reads, includes, Reached, LAOf, lookahead-la, la-lookahead}
 

@@ -6,12 +6,8 @@ use mathlib.Core.Path.{_≡_}
 use mathlib.Core.Logic.{_≢_}
 use mathlib.Core.List.{List, [], _∷_, _++_}
 use Rattle.grammar.specs.Grammar.{Grammar, Derives}
+use Rattle.sets.specs.Reach.{Reaches}
 use Rattle.lr.specs.Items.{walk}
-
--- "from there on": b is reached from a along R, in no step or more
-pub data Reaches {A : Type 0} (R : A → A → Type 0) : A → A → Type 0 where
-  here : {a : A} → Reaches R a a
-  step : {a b c : A} → R a b → Reaches R b c → Reaches R a c
 
 -- the union of the sets F over everything that a reaches
 pub data Union {A : Type 0} (R : A → A → Type 0) (F : A → ℕ → Type 0) (a : A) (m : ℕ) : Type 0 where

@@ -1,6 +1,5 @@
 -- A set that the rounds leave: only what is meant is in it, and all of it.
-use mathlib.Core.Path.{_≡_, refl}
-use mathlib.Core.Bool.{Bool, true, false}
+use mathlib.Core.Path.{_≡_}
 use mathlib.Core.List.{List, [], _∷_}
 use mathlib.Core.Logic.{⊎-elim}
 use Prim.Native.Nat.{ℕ, _+_, _-_, _^_, _≤_, _<_}
@@ -10,7 +9,7 @@ use native.Mathlib.Numerals.{add-one}
 use lib.Bits.{bitOr}
 use Rattle.sets.specs.Bit.{bit, Has, Within}
 use Rattle.sets.proofs.BitLaws.{bit-bound}
-use Rattle.sets.proofs.HasLaws.{has-none, has-one, one-has, has-or, or-has-l, or-has-r, lt-or-ge}
+use Rattle.sets.proofs.HasLaws.{has-none, has-one, one-has, has-or, or-has-l, or-has-r, lt-or-ge, no-bit}
 use Rattle.grammar.specs.Grammar.{Symbols, Derives, Formed}
 use Rattle.grammar.specs.Card.{terminals, nonterminals, productions, leftOf, rightOf, grammarOf, formFault}
 use Rattle.grammar.specs.Useful
@@ -21,10 +20,6 @@ use Rattle.nonterminals.specs.declared.Kind.the-variants.{Nullable, Prod
 use Rattle.nonterminals.specs.Sets.{NonterminalSet}
 use Rattle.nonterminals.specs.Gathering.{Means, wordOf, joinOf, needsOf, givesOf, Sound, Round, Settled}
 use Rattle.nonterminals.proofs.WordLaws.{within-le, word-terminal, word-nonterminal, join-all, all-join}
-
-no-bit : (b : Bool) → (b ≡ true → ⊥) → b ≡ false
-no-bit true h = absurd (h refl)
-no-bit false h = refl
 
 module _ (c : List ℕ) (t v : ℕ) where
   -- symbol x is in v, a terminal where t is

@@ -10,7 +10,7 @@ use native.Mathlib.Numerals.{add-one}
 use lib.ListN.{length, getD}
 use borrow.Author.Tests.{not-true, not-false}
 use Rattle.sets.specs.Bit.{bit}
-use Rattle.sets.proofs.HasLaws.{lt-or-ge}
+use Rattle.sets.proofs.HasLaws.{lt-or-ge, eq-or}
 use Rattle.grammar.specs.Card.{terminals, nonterminals, productions, lengthOf, startOf, formFault}
 use Rattle.grammar.proofs.CardLaws.{well-formed}
 use Rattle.transitions.specs.Places.{startsAt, lastsAt, productionsAt, dotsAt, linksAt, nullablesAt, occurrencesAt, halvesEnd}
@@ -19,7 +19,7 @@ use Rattle.transitions.specs.Writes.{Stored, Nulled}
 use Rattle.transitions.specs.Occurrences.{symbolAt, Nullable, Occurs, occurringOf, Latest}
 use Rattle.occurrences.specs.Stores.{Occurred}
 use Rattle.occurrences.specs.Gathers.{Gathered, Between, Started, Prepared}
-use Rattle.transitions.proofs.WriteLaws.{eq-or, nullables-same}
+use Rattle.transitions.proofs.WriteLaws.{nullables-same}
 
 pub latest-same : (c w w′ : List ℕ) (x m a : ℕ) → ((o : ℕ) → o < m → occurringOf c w′ o ≡ occurringOf c w o) → Latest c w x m a → Latest c w′ x m a
 latest-same c w w′ x m a same L = record {

@@ -9,7 +9,7 @@ use lib.Seq.{getD-set-same, getD-set-other}
 use Rattle.transitions.specs.Places.{lastsAt, productionsAt, dotsAt, linksAt}
 use Rattle.transitions.specs.Area.{lastOf}
 use Rattle.transitions.specs.Writes.{Stored}
-use Rattle.transitions.proofs.WriteLaws.{eq-or}
+use Rattle.sets.proofs.HasLaws.{eq-or}
 use Rattle.occurrences.specs.Stores.{Cleared, Occurred}
 
 -- ---- zeros

@@ -5,15 +5,13 @@ use mathlib.Core.Bool.{Bool, true, false, not, _&&_, _||_, false≢true}
 use mathlib.Core.Logic.{_⊎_, inl, inr, ⊎-elim}
 use Prim.Native.Nat.{ℕ, _+_, _-_, _*_, _/_, _%_, _≤_, _<_}
 use native.Mathlib.Omega.{arith}
-use native.Mathlib.Nat.{eq-or-lt-of-le, le-of-suc-le-suc}
-use native.Mathlib.Numerals.{add-one}
 use lib.Dec.{eqb}
 use lib.ListN.{length, getD, set, length-set}
 use lib.Seq.{getD-set-same, getD-set-other}
 use lib.Bits.{bitOr}
 use Rattle.sets.specs.Bit.{bit}
 use Rattle.sets.proofs.BitLaws.{bit-or}
-use Rattle.sets.proofs.HasLaws.{or-cases, or-left, or-right}
+use Rattle.sets.proofs.HasLaws.{below-suc, or-cases, or-left, or-right}
 use Rattle.items.specs.Item.{item}
 use Rattle.state_sets.specs.Words.{Lowest}
 use Rattle.state_sets.proofs.WordLaws.{out-in, out-or}
@@ -29,9 +27,6 @@ pub record Part (w : List ℕ) (q : ℕ) (s : List ℕ) (j : ℕ) (t : List ℕ)
   pub done : (k m : ℕ) → k < j → m < 64 → bit (getD t k 0) m ≡ (bit (getD s k 0) m || precedes w q (64 * k + m))
   pub rest : (k : ℕ) → j ≤ k → getD t k 0 ≡ getD s k 0
 
-below-suc : {k j : ℕ} → k < j + 1 → (k ≡ j) ⊎ (k < j)
-below-suc {k} {j} h = eq-or-lt-of-le (le-of-suc-le-suc (rw add-one at h))
-
 pub part-start : (w : List ℕ) (q : ℕ) (s : List ℕ) → length s ≡ 4 → Part w q s 0 s
 part-start w q s l = record { most = omega arith; long = l; done = λ k m h g. absurd (let z : ⊥ = omega arith in z); rest = λ k h. refl }
 
@@ -42,10 +37,10 @@ module _ (w : List ℕ) (q : ℕ) (s : List ℕ) (j : ℕ) (t : List ℕ) (p : P
     long = length-set t j _ ∙ p .long;
     done = λ k m l g.
         ⊎-elim
+        (λ (q : k < j). ap (λ (x : ℕ). bit x m) (getD-set-other t j k _ 0 (λ e. omega arith)) ∙ p .done k m q g)
         (λ (e : k ≡ j).
         rw e (ap (λ (x : ℕ). bit x m) (getD-set-same t j (bitOr (getD t j 0) v) 0 (omega (arith, p .long)))
         ∙ bit-or (getD t j 0) v m ∙ ap₂ (λ (x : ℕ) (y : Bool). bit x m || y) (p .rest j (omega arith)) (bits m g)))
-        (λ (q : k < j). ap (λ (x : ℕ). bit x m) (getD-set-other t j k _ 0 (λ e. omega arith)) ∙ p .done k m q g)
         (below-suc l);
     rest = λ k l. getD-set-other t j k _ 0 (λ e. omega arith) ∙ p .rest k (omega arith);
   }

@@ -1,3 +1,4 @@
 pub mod Bit
 pub mod Tests
 pub mod Lists
+pub mod Reach

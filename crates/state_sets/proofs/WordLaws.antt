@@ -5,7 +5,6 @@ use mathlib.Core.Bool.{Bool, true, false, not, _&&_, false≢true}
 use mathlib.Core.Logic.{_⊎_, inl, inr, ⊎-elim}
 use Prim.Native.Nat.{ℕ, _+_, _*_, _/_, _%_, _^_, _≤_, _<_}
 use native.Mathlib.Omega.{arith}
-use native.Mathlib.Decide.{ℕ-discrete}
 use native.Mathlib.Nat.{zero-add}
 use lib.Dec.{eqb}
 use lib.ListN.{length, getD, set}
@@ -15,18 +14,11 @@ use borrow.Author.Tests.{eq-eqb, ne-eqb}
 use Rattle.sets.specs.Bit.{bit, count}
 use Rattle.sets.proofs.BitLaws.{lowest-lt}
 use Rattle.sets.proofs.CountLaws.{count-same}
-use Rattle.sets.proofs.HasLaws.{lt-or-ge}
-use Rattle.sets.proofs.TestLaws.{and-left, and-right}
+use Rattle.sets.proofs.HasLaws.{lt-or-ge, eq-or}
+use Rattle.sets.proofs.TestLaws.{and-left, and-right, and-one, and-true}
 use Rattle.items.specs.Item.{item}
 use Rattle.items.proofs.NextLaws.{Gap, found}
 use Rattle.state_sets.specs.Words.{Lowest}
-
-eq-or : (a b : ℕ) → (a ≡ b) ⊎ (a ≡ b → ⊥)
-eq-or a b = elim (ℕ-discrete a b) [ yes h ↦ inl h | no h ↦ inr h ]
-
-and-true : (p : Bool) → (p && true) ≡ p
-and-true true = refl
-and-true false = refl
 
 eqb-rest : (i j : ℕ) → j / 64 ≡ i / 64 → eqb (i % 64) (j % 64) ≡ eqb i j
 eqb-rest i j e =
@@ -46,7 +38,7 @@ item-out ws i v h b j =
     ∙ ap₂ (λ (x : ℕ) (y : Bool). bit (getD ws x 0) (j % 64) && not y) (sym e) (eqb-rest i j e))
     (λ n.
     ap (λ (x : ℕ). bit x (j % 64)) (getD-set-other ws (i / 64) (j / 64) v 0 n)
-    ∙ sym (ap (λ (x : Bool). item ws j && not x) (ne-eqb i j (λ e. n (ap (λ (x : ℕ). x / 64) (sym e)))) ∙ and-true (item ws j)))
+    ∙ sym (ap (λ (x : Bool). item ws j && not x) (ne-eqb i j (λ e. n (ap (λ (x : ℕ). x / 64) (sym e)))) ∙ and-one (item ws j)))
     (eq-or (j / 64) (i / 64))
 
 -- the lowest state: in word k, with none below
@@ -65,10 +57,7 @@ module _ (s r : List ℕ) (q : ℕ) (h : item s q ≡ true) (e : (k : ℕ) → i
 
   pub out-or : (k : ℕ) → item s k ≡ true → (k ≡ q) ⊎ (item r k ≡ true)
   out-or k g =
-      ⊎-elim (λ (f : k ≡ q). inl f) (λ (f : k ≡ q → ⊥). inr (e k ∙ and-true′ g (ap not (ne-eqb q k (λ z. f (sym z)))))) (eq-or k q)
-    where
-      and-true′ : {a b : Bool} → a ≡ true → b ≡ true → (a && b) ≡ true
-      and-true′ x y = rw (x, y)
+      ⊎-elim (λ (f : k ≡ q). inl f) (λ (f : k ≡ q → ⊥). inr (e k ∙ and-true g (ap not (ne-eqb q k (λ z. f (sym z)))))) (eq-or k q)
 
   pub out-gone : item r q ≡ true → ⊥
   out-gone g = let z : not (eqb q q) ≡ true = and-right (item s q) (not (eqb q q)) (sym (e q) ∙ g) in false≢true (sym (ap not (eq-eqb q q refl)) ∙ z)

@@ -12,7 +12,7 @@ use lib.ListN.{getD}
 use borrow.Author.Tests.{eq-eqb, ne-eqb, lt-ltb, eqb-true}
 use Rattle.sets.specs.Bit.{count, one-if}
 use Rattle.sets.proofs.CountLaws.{count-le}
-use Rattle.sets.proofs.HasLaws.{lt-or-ge, or-cases, or-left, or-right}
+use Rattle.sets.proofs.HasLaws.{lt-or-ge, eq-or, or-cases, or-left, or-right}
 use Rattle.sets.proofs.TestLaws.{and-both, and-true}
 use Rattle.grammar.specs.Card.{terminals, nonterminals}
 use Rattle.tables.specs.Conflicts.{Before, lower-state, lower-symbol}
@@ -22,7 +22,7 @@ use Rattle.areas.specs.Areas.{rowOf}
 use Rattle.transitions.specs.Next.{nextOf, Numbered, moves, transitionCount}
 use Rattle.occurrences.specs.Stores.{Cleared}
 use Rattle.transitions.specs.Writes.{Stored}
-use Rattle.transitions.proofs.WriteLaws.{eq-or, precedes-same, precedes-none}
+use Rattle.transitions.proofs.WriteLaws.{precedes-same, precedes-none}
 use Rattle.transition_lists.specs.Stores.{Noted, Celled}
 use Rattle.transition_lists.specs.Stores.Celled.{vacant, terminal, many, listed}
 use Rattle.transition_lists.specs.Passes.{Listing, Firsts, Seen, Passed, Behind, Come}

@@ -2,10 +2,9 @@
 use mathlib.Core.Path.{_≡_, refl, sym, ap, ap₂, _∙_}
 use mathlib.Core.List.{List}
 use mathlib.Core.Bool.{Bool, false, _&&_, _||_}
-use mathlib.Core.Logic.{_⊎_, inl, inr, ⊎-elim}
+use mathlib.Core.Logic.{_⊎_, ⊎-elim}
 use Prim.Native.Nat.{ℕ, _+_, _*_, _/_, _%_, _^_, _≤_, _<_}
 use native.Mathlib.Omega.{arith}
-use native.Mathlib.Decide.{ℕ-discrete}
 use native.Mathlib.Nat.{mod-add-div'}
 use lib.Dec.{eqb}
 use lib.ListN.{length, getD, set, length-set}
@@ -14,13 +13,10 @@ use lib.Bits.{bitOr}
 use borrow.Author.Tests.{eq-eqb, ne-eqb}
 use Rattle.sets.specs.Bit.{bit}
 use Rattle.sets.proofs.BitLaws.{bit-zero, bit-or, bit-pow}
-use Rattle.sets.proofs.HasLaws.{or-false}
+use Rattle.sets.proofs.HasLaws.{eq-or, or-false}
 use Rattle.transitions.specs.Places.{predecessorsAt, startsAt, nullablesAt, occurrencesAt}
 use Rattle.transitions.specs.Area.{precedes, pairOf, Paired, nullablesOf}
 use Rattle.transitions.specs.Writes.{Stored, Preceded, Nulled}
-
-pub eq-or : (a b : ℕ) → (a ≡ b) ⊎ (a ≡ b → ⊥)
-eq-or a b = elim (ℕ-discrete a b) [ yes h ↦ inl h | no h ↦ inr h ]
 
 pub stored : (w : List ℕ) (i j v : ℕ) → j ≡ i → i < length w → Stored w i v (set w j v)
 stored w i j v e h = rw e (record { long = length-set w i v; here = getD-set-same w i v 0 h; other = λ u n. getD-set-other w i u v 0 n })

@@ -70,6 +70,59 @@ impl<T: Copy + PartialEq + Default> Area<T> {
     }
 }
 
+/// The generator's three areas.
+pub struct Areas {
+    table: Area<u16>,
+    work: Area<u64>,
+    work2: Area<u32>,
+}
+
+impl Areas {
+    pub fn new(random: &mut Random) -> Areas {
+        Areas {
+            table: Area::new(random, TABLE_LENGTH, |n| n as u16),
+            work: Area::new(random, WORK_LENGTH, |n| n),
+            work2: Area::new(random, WORK2_LENGTH, |n| n as u32),
+        }
+    }
+
+    /// What the generator answers with other old contents and lengths.
+    pub fn generate(
+        &mut self,
+        random: &mut Random,
+        short: [bool; 3],
+        numbers: &[u16],
+        generator: &Generator,
+    ) -> [u64; 5] {
+        self.table.lend(random, short[0]);
+        self.work.lend(random, short[1]);
+        self.work2.lend(random, short[2]);
+        generator(numbers, self.table.area(), self.work.area(), self.work2.area())
+    }
+
+    /// Fails where answer or areas differ from what is expected.
+    pub fn compare(&self, expected: &Answer, out: [u64; 5]) -> Result<(), String> {
+        if out != expected.out() {
+            return Err(format!("answer {out:?}, expected {:?}", expected.out()));
+        }
+        let (table, rest): (Option<&[u16]>, bool) = match expected {
+            Answer::Table(numbers) => (Some(numbers), true),
+            Answer::Refused(1..=10, _) => (None, false),
+            Answer::Refused(..) => (Some(&[]), true),
+        };
+        if !self.table.holds(table) {
+            return Err("the table area differs".into());
+        }
+        if !self.work.holds(rest.then_some(&[])) {
+            return Err("the first work area differs".into());
+        }
+        if !self.work2.holds(rest.then_some(&[])) {
+            return Err("the second work area differs".into());
+        }
+        Ok(())
+    }
+}
+
 /// An area of the parser with its old contents and a fence behind it, twice: for
 /// the parser under test and for the reference.
 struct Twin {
@@ -123,9 +176,7 @@ pub struct Counts {
 const ENOUGH: u32 = 50_000;
 
 pub struct Checker {
-    table: Area<u16>,
-    work: Area<u64>,
-    work2: Area<u32>,
+    areas: Areas,
     stack: Twin,
     list: Twin,
     pub counts: Counts,
@@ -140,9 +191,7 @@ pub struct Checker {
 impl Checker {
     pub fn new(random: &mut Random) -> Checker {
         Checker {
-            table: Area::new(random, TABLE_LENGTH, |n| n as u16),
-            work: Area::new(random, WORK_LENGTH, |n| n),
-            work2: Area::new(random, WORK2_LENGTH, |n| n as u32),
+            areas: Areas::new(random),
             stack: Twin::new(random, 2_000),
             list: Twin::new(random, 4_000),
             counts: Counts::default(),
@@ -165,15 +214,12 @@ impl Checker {
             short[random.below(3)] = true;
             short[random.below(3)] = true;
         }
-        self.table.lend(random, short[0]);
-        self.work.lend(random, short[1]);
-        self.work2.lend(random, short[2]);
-        let out = generator(numbers, self.table.area(), self.work.area(), self.work2.area());
+        let out = self.areas.generate(random, short, numbers, generator);
 
         self.counts.cards += 1;
         let both = self.counts.cards.is_multiple_of(self.both);
-        let lengths = (self.table.length, self.work.length, self.work2.length);
-        let expected = match short_area(lengths.0, lengths.1, lengths.2) {
+        let Areas { table, work, work2 } = &self.areas;
+        let expected = match short_area(table.length, work.length, work2.length) {
             Some(refused) => refused,
             None => {
                 let found = reference(numbers, BOUND, both);
@@ -184,7 +230,7 @@ impl Checker {
         };
         self.counts.answers[expected.out()[0] as usize] += 1;
         if self.compare {
-            self.compare(&expected, out)?;
+            self.areas.compare(&expected, out)?;
         }
         if let (Answer::Table(table), 0) = (&expected, out[0]) {
             self.counts.wide += u64::from(table[1] == 64);
@@ -199,27 +245,6 @@ impl Checker {
                     format!("input {input:?}, areas {stack} and {list}, limit {limit}: {what}")
                 })?;
             }
-        }
-        Ok(())
-    }
-
-    fn compare(&self, expected: &Answer, out: [u64; 5]) -> Result<(), String> {
-        if out != expected.out() {
-            return Err(format!("answer {out:?}, expected {:?}", expected.out()));
-        }
-        let (table, rest): (Option<&[u16]>, bool) = match expected {
-            Answer::Table(numbers) => (Some(numbers), true),
-            Answer::Refused(1..=10, _) => (None, false),
-            Answer::Refused(..) => (Some(&[]), true),
-        };
-        if !self.table.holds(table) {
-            return Err("the table area differs".into());
-        }
-        if !self.work.holds(rest.then_some(&[])) {
-            return Err("the first work area differs".into());
-        }
-        if !self.work2.holds(rest.then_some(&[])) {
-            return Err("the second work area differs".into());
         }
         Ok(())
     }
@@ -249,7 +274,7 @@ impl Checker {
         limit: u32,
         parser: &Parser,
     ) -> Result<(), String> {
-        let table = &self.table.now[..self.table.length];
+        let table = &self.areas.table.now[..self.areas.table.length];
         let (stack, list) = (self.stack.length, self.list.length);
         let (ours, theirs) = (&mut self.stack.ours[..stack], &mut self.stack.theirs[..stack]);
         let (our_list, their_list) = (&mut self.list.ours[..list], &mut self.list.theirs[..list]);

@@ -3,6 +3,7 @@
 //!
 //!     generator-tests random            compares the linked archives with the reference
 //!     generator-tests self-check        requires that wrong generators and parsers are found
+//!     generator-tests sums              compares joins of completed families with the archive
 //!     generator-tests measure FILE..    prints sizes and times of stored cards
 //!     generator-tests climb WHAT FILE.. looks for cards with more WHAT: time, reads,
 //!                                       includes or edges
@@ -15,6 +16,8 @@ mod check;
 mod lookaheads;
 mod measure;
 mod relations;
+mod sums;
+mod walks;
 mod wrong;
 
 use std::process::ExitCode;
@@ -136,13 +139,14 @@ fn main() -> ExitCode {
     let good = match arguments.iter().map(String::as_str).collect::<Vec<_>>()[..] {
         ["random"] => compare(seed, cards),
         ["self-check"] => self_check(seed, cards),
+        ["sums"] => sums::sums(seed, setting("CARDS", 10_000)),
         ["measure", _, ..] => measure::measure_files(&arguments[1..]),
         ["climb", what, _, ..] => {
             let mut random = Random::new(seed);
             measure::climb(&mut random, setting("SEARCH_SECONDS", 60), what, &arguments[2..])
         }
         _ => {
-            println!("random, self-check, measure FILE.. or climb WHAT FILE..");
+            println!("random, self-check, sums, measure FILE.. or climb WHAT FILE..");
             false
         }
     };

@@ -1,8 +1,10 @@
 //! The short way by relations of nonterminal transitions, with a fault on
 //! demand. It is not part of the reference: it shows that faults in this way of
-//! working are found, and counts the relations of slow cards.
+//! working are found, counts the relations of slow cards, and lends its steps to
+//! the test of sums.
 
 use std::collections::HashMap;
+use std::ops::BitOr;
 
 use reference::automaton::{Automaton, Missing};
 use reference::grammar::Grammar;
@@ -85,13 +87,37 @@ pub fn relations(grammar: &Grammar, automaton: &Automaton, fault: Fault) -> Rela
     Relations { transitions, reads, includes }
 }
 
+/// The sets the transitions start with: the terminals with a shift right behind
+/// them, and the end marker behind the start.
+pub fn direct_reads(
+    grammar: &Grammar,
+    automaton: &Automaton,
+    transitions: &[(usize, usize)],
+    fault: Fault,
+) -> Vec<u64> {
+    let card = &grammar.card;
+    let start = |&(state, symbol): &(usize, usize)| {
+        let shifts = &automaton.next[automaton.next[state][symbol].expect("a transition")];
+        let end = u64::from((state, symbol) == (0, card.start()) && fault != Fault::NoEnd);
+        let terminals = (1..card.terminals).filter(|&terminal| shifts[terminal].is_some());
+        terminals.fold(end, |set, terminal| set | 1 << terminal)
+    };
+    transitions.iter().map(start).collect()
+}
+
 /// Joins to each set the sets of all related transitions, and of those again.
-fn complete(related: &[Vec<usize>], sets: &mut Vec<u64>, once: bool, apart: bool) {
-    fn visit(at: usize, related: &[Vec<usize>], sets: &mut [u64], seen: &mut [bool]) {
+pub fn complete<S>(related: &[Vec<usize>], sets: &mut Vec<S>, once: bool, apart: bool)
+where
+    S: Copy + PartialEq + BitOr<Output = S>,
+{
+    fn visit<S>(at: usize, related: &[Vec<usize>], sets: &mut [S], seen: &mut [bool])
+    where
+        S: Copy + BitOr<Output = S>,
+    {
         if !std::mem::replace(&mut seen[at], true) {
             for &to in &related[at] {
                 visit(to, related, sets, seen);
-                sets[at] |= sets[to];
+                sets[at] = sets[at] | sets[to];
             }
         }
     }
@@ -111,19 +137,35 @@ fn complete(related: &[Vec<usize>], sets: &mut Vec<u64>, once: bool, apart: bool
     }
 }
 
+/// Gives each complete production the sets of the transitions it looks back to.
+pub fn look_back(
+    grammar: &Grammar,
+    automaton: &mut Automaton,
+    transitions: &[(usize, usize)],
+    sets: &[u64],
+    fault: Fault,
+) {
+    let mut lookaheads: HashMap<(usize, usize), u64> = HashMap::new();
+    for (number, &(state, symbol)) in transitions.iter().enumerate() {
+        for &production in &grammar.of[symbol] {
+            let end = walk(automaton, state, &grammar.rights[production]);
+            let set = lookaheads.entry((end, production)).or_default();
+            if *set == 0 || fault != Fault::LookbackOnce {
+                *set |= sets[number];
+            }
+        }
+    }
+    for (state, complete) in automaton.complete.iter_mut().enumerate() {
+        for (production, set) in complete.iter_mut().filter(|(p, _)| *p != grammar.added()) {
+            *set = lookaheads[&(state, *production)];
+        }
+    }
+}
+
 pub fn automaton(grammar: &Grammar, fault: Fault) -> Result<Automaton, Missing> {
     let mut found = lr0::automaton(grammar)?;
-    let card = &grammar.card;
     let Relations { transitions, reads, includes } = relations(grammar, &found, fault);
-    let mut sets: Vec<u64> = transitions
-        .iter()
-        .map(|&(state, symbol)| {
-            let to = found.next[state][symbol].expect("a transition");
-            let end = u64::from((state, symbol) == (0, card.start()) && fault != Fault::NoEnd);
-            let shifts = (1..card.terminals).filter(|&terminal| found.next[to][terminal].is_some());
-            shifts.fold(end, |set, terminal| set | 1 << terminal)
-        })
-        .collect();
+    let mut sets = direct_reads(grammar, &found, &transitions, fault);
     let apart = fault == Fault::CyclesApart;
     if fault != Fault::NoReads {
         complete(&reads, &mut sets, fault == Fault::ReadsOnce, apart);
@@ -131,20 +173,6 @@ pub fn automaton(grammar: &Grammar, fault: Fault) -> Result<Automaton, Missing> 
     if fault != Fault::NoIncludes {
         complete(&includes, &mut sets, fault == Fault::IncludesOnce, apart);
     }
-    let mut lookaheads: HashMap<(usize, usize), u64> = HashMap::new();
-    for (number, &(state, symbol)) in transitions.iter().enumerate() {
-        for &production in &grammar.of[symbol] {
-            let end = walk(&found, state, &grammar.rights[production]);
-            let set = lookaheads.entry((end, production)).or_default();
-            if *set == 0 || fault != Fault::LookbackOnce {
-                *set |= sets[number];
-            }
-        }
-    }
-    for (state, complete) in found.complete.iter_mut().enumerate() {
-        for (production, set) in complete.iter_mut().filter(|(p, _)| *p != grammar.added()) {
-            *set = lookaheads[&(state, *production)];
-        }
-    }
+    look_back(grammar, &mut found, &transitions, &sets, fault);
     Ok(found)
 }

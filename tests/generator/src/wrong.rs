@@ -1,12 +1,12 @@
 //! Generators that are wrong in one way each; the tests must find all of them.
 
 use reference::answer::{
-    actions, answer, finish, generate, leave, short_area, table, Answer, Method, ACCEPT, REDUCE,
-    TABLE_LENGTH, WORK2_LENGTH, WORK_LENGTH,
+    actions, answer, finish, generate, grammar, leave, short_area, table, Answer, Method, ACCEPT,
+    REDUCE, TABLE_LENGTH, WORK2_LENGTH, WORK_LENGTH,
 };
 use reference::automaton::{number, Automaton, Missing};
 use reference::card::{parse, Card};
-use reference::grammar::{useless, Grammar};
+use reference::grammar::Grammar;
 use reference::lr0;
 
 use crate::abi::{Generator, Parser};
@@ -36,15 +36,9 @@ fn by_grammar(
     name: &'static str,
     of_grammar: impl Fn(&Grammar) -> Result<Answer, Missing> + 'static,
 ) -> Wrong {
-    by_card(name, move |numbers| match parse(numbers) {
-        Err(number) => Answer::Refused(number, vec![]),
-        Ok(card) => match useless(&card) {
-            Some(nonterminal) => Answer::Refused(10, vec![nonterminal as u64]),
-            None => {
-                let grammar = Grammar::new(card);
-                of_grammar(&grammar).unwrap_or(Answer::Refused(11, vec![]))
-            }
-        },
+    by_card(name, move |numbers| match grammar(numbers) {
+        Err(refused) => refused,
+        Ok(grammar) => of_grammar(&grammar).unwrap_or(Answer::Refused(11, vec![])),
     })
 }
 

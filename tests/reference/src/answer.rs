@@ -44,17 +44,22 @@ pub enum Method {
     Spreading,
 }
 
+/// The grammar of a card, or one of the refusals 4 to 10.
+pub fn grammar(numbers: &[u16]) -> Result<Grammar, Answer> {
+    let card = parse(numbers).map_err(|number| Answer::Refused(number, vec![]))?;
+    match useless(&card) {
+        Some(nonterminal) => Err(Answer::Refused(10, vec![nonterminal as u64])),
+        None => Ok(Grammar::new(card)),
+    }
+}
+
 /// The answer for a card and areas that are long enough; nothing if the method
 /// gave up.
 pub fn answer(numbers: &[u16], method: Method) -> Option<Answer> {
-    let card = match parse(numbers) {
-        Ok(card) => card,
-        Err(number) => return Some(Answer::Refused(number, vec![])),
+    let grammar = match grammar(numbers) {
+        Ok(grammar) => grammar,
+        Err(refused) => return Some(refused),
     };
-    if let Some(nonterminal) = useless(&card) {
-        return Some(Answer::Refused(10, vec![nonterminal as u64]));
-    }
-    let grammar = Grammar::new(card);
     let found = match method {
         Method::Canonical(bound) => lr1::automaton(&grammar, bound),
         Method::Spreading => lr0::automaton(&grammar),

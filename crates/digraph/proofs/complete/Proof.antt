@@ -7,9 +7,9 @@ use lib.ListN.{length}
 use Rattle.areas.specs.Areas.{wordsSize}
 use Rattle.relations.specs.Edge.{Edge}
 use Rattle.transitions.specs.Places.{shiftsAt}
-use Rattle.digraph.specs.Completion.{at}
+use Rattle.digraph.specs.Walked.{at}
 use Rattle.digraph.specs.Walk.{InvIn, numIn}
-use Rattle.digraph.proofs.Theory.{below-suc}
+use Rattle.sets.proofs.HasLaws.{below-suc}
 use Rattle.digraph.proofs.complete.Statement.{statement}
 use Rattle.digraph.proofs.Steps as steps
 use Rattle.digraph.proofs.complete.Tie as tie

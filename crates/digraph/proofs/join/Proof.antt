@@ -5,7 +5,7 @@ use mathlib.Core.Path.{ap, ap₂, _∙_}
 use Prim.Native.Nat.{_+_, min}
 use lib.Bits.{bitOr}
 use Rattle.transitions.specs.Places.{numbersAt}
-use Rattle.digraph.specs.Completion.{at}
+use Rattle.digraph.specs.Walked.{at}
 use borrow.Author.Needs.{needs}
 use Rattle.digraph.proofs.join.Statement.{statement}
 use Rattle.digraph.proofs.Steps as steps

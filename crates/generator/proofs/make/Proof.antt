@@ -1,4 +1,4 @@
-use mathlib.Core.Path.{sym, _∙_}
+use mathlib.Core.Path.{_∙_}
 use native.Mathlib.Omega.{arith}
 use Rattle.generator.proofs.Made.{eleven-met, numbered-states, twelve-met, stage, table-met, conflict-met}
 use borrow.Author.Needs.{needs}
@@ -147,7 +147,11 @@ same-length-11 c =
     b4 .z5 .given ∙ b14 .z4 .given ∙ b30 .z .given
 
 same-length-12 : tie.Need-same-length-12
-same-length-12 c = search needs
+same-length-12 c =
+    let b6 = c .before .before .before .before .before .before in
+    let b21 = b6 .before .before .before .before .before .before .before .before .before .before .before .before .before .before .before in
+    let b28 = b21 .before .before .before .before .before .before .before in
+    b6 .w5 .given ∙ b21 .w3 .given ∙ b28 .w .given
 
 returns-4 : tie.Need-returns-4
 returns-4 c =

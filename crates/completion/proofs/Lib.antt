@@ -1,0 +1,4 @@
+pub mod Laws
+pub mod Exists
+pub mod Sums
+pub mod Wrong
