@@ -1,10 +1,12 @@
 // The grammar card: its numbers, each with an answer for every slice, and the first refusal of its form.
 ghost use mathlib.Core.Path.{_≡_};
-ghost use Prim.Native.Nat.{_+_, _<_, _^_};
+ghost use Prim.Native.Nat.{_+_, _<_, _≤_, _^_, min};
 ghost use lib.Dec.{eqb};
 ghost use lib.ListN.{length, getD};
+ghost use Rattle.sets.specs.Bit.{Tells};
 ghost use Rattle.sets.specs.Tests.{between as betweenOf};
-ghost use Rattle.grammar.specs.Card.{terminals as terminalsOf, nonterminals as nonterminalsOf, productions as productionsOf, symbols as symbolsOf, symbolsAt, leftOf, lengthOf, symbolOf, startOf, isNonterminal, isSymbol, sizesOk, leftsOk, rightsOk, formFault};
+ghost use Rattle.grammar.specs.Card.{terminals as terminalsOf, nonterminals as nonterminalsOf, productions as productionsOf, symbols as symbolsOf, symbolsAt, leftOf, lengthOf, symbolOf, startOf, isNonterminal, isSymbol, sizesOk, leftsOk, formFault};
+ghost use Rattle.card.specs.Pass.{Refused, After, Whole, sidesFault};
 
 pub fn wide(x: u16) -> usize
     ensures { λ r. ⌜ r ≡ x ⌝ }
@@ -146,18 +148,85 @@ fn lefts_ok(c: &[u16]) -> bool
     true
 }
 
-fn rights_ok(c: &[u16]) -> bool
-    ensures { λ r. ⌜ r ≡ rightsOk (now (c .entry)) ⌝ }
+// What the pass over the productions holds after some of them: the sum of their lengths, and whether one of that
+// many first symbols, as far as L goes, is one that 9 refuses.
+struct Passed {
+    sum: u32,
+    fault: bool,
+}
+
+// Whether one of the symbols from a on and before b, all of them in the card, is one that 9 refuses.
+fn refused(c: &[u16], a: u32, b: u32) -> bool
+    requires { ⌜ symbolsAt (now c) + b ≤ length (now c) ⌝ }
+    ensures { λ r. ⌜ Tells r (Refused (now (c .entry)) a b) ⌝ }
 {
-    let n = wider(symbols(c));
-    let mut i: u32 = 0;
-    while i < n {
-        if !is_symbol(c, symbol(c, i)) {
-            return false;
+    let first = symbols_at(c);
+    let mut k = a;
+    while k < b {
+        if !is_symbol(c, c[first + wide32(k)]) {
+            return true;
         }
-        i += 1;
+        k += 1;
     }
-    true
+    false
+}
+
+// How many the first n symbols are, as far as L goes.
+fn as_far(c: &[u16], n: u32) -> u32
+    ensures { λ m. ⌜ m ≡ min n (symbolsOf (now (c .entry))) ⌝ }
+{
+    let l = wider(symbols(c));
+    if n < l { n } else { l }
+}
+
+// The step of the pass: production r after those before it.
+fn pass_one(c: &[u16], r: u16, p: Passed) -> Passed
+    requires { ⌜ After (now c) r p × Whole (now c) ⌝ }
+    ensures { λ q. ⌜ After (now (c .entry)) (r + 1) q ⌝ }
+{
+    let sum = p.sum + wider(length(c, r));
+    let fault = p.fault | refused(c, p.sum, as_far(c, sum));
+    Passed {
+        sum: sum,
+        fault: fault,
+    }
+}
+
+// The whole pass.
+fn pass(c: &[u16]) -> Passed
+    requires { ⌜ Whole (now c) ⌝ }
+    ensures { λ p. ⌜ After (now (c .entry)) (productionsOf (now (c .entry))) p ⌝ }
+{
+    let n = productions(c);
+    let mut p = Passed {
+        sum: 0,
+        fault: false,
+    };
+    let mut r: u16 = 0;
+    while r < n {
+        p = pass_one(c, r, p);
+        r += 1;
+    }
+    p
+}
+
+// The first of the refusals 7 to 9 that applies, or 0. 8 and 9 are read off what the pass holds at its end.
+fn sides_fault(c: &[u16]) -> u16
+    requires { ⌜ Whole (now c) ⌝ }
+    ensures { λ r. ⌜ r ≡ sidesFault (now (c .entry)) ⌝ }
+{
+    if !lefts_ok(c) {
+        return 7;
+    }
+    let p = pass(c);
+    let l = wider(symbols(c));
+    if p.sum != l {
+        return 8;
+    }
+    if p.fault {
+        return 9;
+    }
+    0
 }
 
 // The first of the refusals 4 to 9 that applies, or 0.
@@ -173,14 +242,5 @@ pub fn form_fault(c: &[u16]) -> u16
     if !length_ok(c) {
         return 6;
     }
-    if !lefts_ok(c) {
-        return 7;
-    }
-    if start(c, productions(c)) != wider(symbols(c)) {
-        return 8;
-    }
-    if !rights_ok(c) {
-        return 9;
-    }
-    0
+    sides_fault(c)
 }

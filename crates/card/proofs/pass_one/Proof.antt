@@ -1,0 +1,29 @@
+use mathlib.Core.Path.{_≡_, sym, ap, _∙_}
+use native.Mathlib.Omega.{arith}
+use denote.Ref.{now}
+use borrow.Author.Needs.{needs}
+use Rattle.grammar.specs.Card.{startOf}
+use Rattle.card.proofs.PassLaws.{next-production, start-most}
+use Rattle.card.proofs.pass_one.Statement.{statement}
+use Rattle.card.proofs.pass_one.Tie as tie
+
+add-sum : tie.Need-add-sum
+add-sum c =
+    let start = c .before .before .before .before in
+    omega (arith, start .pre .0 .sum, start-most (now (start .args .c)) (start .args .r) (λ i. omega (arith, c .before .before .before .shared-slice-known .given i)))
+
+returns : tie.Need-returns
+returns c =
+    let start = c .before .before .before .before .before .before .before in
+    next-production _ _ _ (start .args .p) _ (start .pre .0) (c .before .before .before .before .wider .ensures ∙ c .before .before .before .before .before .length .ensures) (rw (c .before .before .as-far .ensures) at (c .before .refused .ensures))
+
+pub pass-one-spec : {M : Type 1} → statement M
+pass-one-spec =
+    tie.close
+    (tie.spec
+    (λ c κs. search needs)
+    (λ c κs. search needs)
+    add-sum
+    (λ c κs. search needs)
+    (λ c κs. search needs)
+    returns)
