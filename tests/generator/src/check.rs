@@ -3,7 +3,7 @@
 //! reference, and the answer against the membership tests.
 
 use reference::answer::{reference, short_area, Answer, TABLE_LENGTH, WORK2_LENGTH, WORK_LENGTH};
-use reference::card::parse;
+use reference::card::{bad_symbol, parse};
 use reference::derivation::{is_rightmost, sentence, Shortest};
 use reference::earley::recognise;
 use reference::grammar::Grammar;
@@ -159,6 +159,9 @@ pub struct Counts {
     pub cards: u64,
     /// Cards by answer, 0 for a table.
     pub answers: [u64; 14],
+    /// Cards refused for their right sides: 8 with good symbols, 9, and 8 with a bad
+    /// symbol.
+    pub right_sides: [u64; 3],
     /// Answers found by the definition, and by both ways of the reference.
     pub by_definition: u64,
     pub both_ways: u64,
@@ -170,6 +173,14 @@ pub struct Counts {
     pub wrong_before: u64,
     pub ran_out: u64,
     pub refused: u64,
+}
+
+impl Counts {
+    /// Of one of the three kinds of wrong right sides there was one card in 200, or
+    /// fewer.
+    pub fn few_right_sides(&self) -> bool {
+        self.right_sides.iter().any(|&cards| cards <= self.cards / 200)
+    }
 }
 
 /// Steps that no input of the tests needs.
@@ -229,6 +240,12 @@ impl Checker {
             }
         };
         self.counts.answers[expected.out()[0] as usize] += 1;
+        match expected {
+            Answer::Refused(8, _) if bad_symbol(numbers) => self.counts.right_sides[2] += 1,
+            Answer::Refused(8, _) => self.counts.right_sides[0] += 1,
+            Answer::Refused(9, _) => self.counts.right_sides[1] += 1,
+            _ => {}
+        }
         if self.compare {
             self.areas.compare(&expected, out)?;
         }

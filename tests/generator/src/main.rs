@@ -15,6 +15,7 @@ mod cards;
 mod check;
 mod lookaheads;
 mod measure;
+mod pass;
 mod relations;
 mod sums;
 mod walks;
@@ -43,6 +44,8 @@ fn report(counts: &Counts) {
         let name = if answer == 0 { "table".into() } else { format!("refused {answer}") };
         println!("{name:>12} {count:>8}");
     }
+    let [lengths, symbols, both] = counts.right_sides;
+    println!("right sides: only 8 {lengths}, only 9 {symbols}, both {both}");
     println!("tables with 64 terminals {}, with over 100 states {}", counts.wide, counts.large);
     println!("by the definition {}, by both ways {}", counts.by_definition, counts.both_ways);
     println!(
@@ -68,7 +71,11 @@ fn compare(seed: u64, cards: u64) -> bool {
     if !unseen.is_empty() {
         println!("FAILED: answers not seen: {unseen:?}");
     }
-    unseen.is_empty()
+    let few = checker.counts.few_right_sides();
+    if few {
+        println!("FAILED: only 8, only 9 or both for one card in 200, or fewer");
+    }
+    unseen.is_empty() && !few
 }
 
 /// The number of the first card at which a wrong generator or parser is found.
@@ -112,10 +119,21 @@ fn self_check(seed: u64, cards: u64) -> bool {
             }
         }
     };
-    // The base of some wrong generators is right.
+    // The bases of some wrong generators are right.
     let base = wrong::by_relations("the short way without a fault", relations::Fault::None);
     if let Some((card, what)) = found(seed, cards / 10, true, &base.generator, &parser) {
         println!("FAILED: {} at card {card}: {what}", base.name);
+        return false;
+    }
+    if !pass::is_right(seed, cards / 10) {
+        println!("FAILED: one pass without a fault");
+        return false;
+    }
+    // Cards of a kind that are too few are told, and only they.
+    let few =
+        |right_sides| Counts { cards: 200, right_sides, ..Counts::default() }.few_right_sides();
+    if few([2, 2, 2]) || !few([1, 2, 2]) || !few([2, 1, 2]) || !few([2, 2, 1]) {
+        println!("FAILED: the count of right sides refused");
         return false;
     }
     for wrong in wrong::generators() {
