@@ -1,5 +1,5 @@
 -- What the pass holds, symbol by symbol and production by production; what it says of 9 at its end.
-use mathlib.Core.Path.{_≡_, refl, sym, ap, _∙_}
+use mathlib.Core.Path.{_≡_, refl, sym, ap, ap₂, _∙_}
 use mathlib.Core.Bool.{Bool, true, false, _||_, false≢true}
 use mathlib.Core.List.{List}
 use mathlib.Core.Logic.{⊎-elim}
@@ -19,7 +19,23 @@ use Rattle.card.specs.declared.Passed.{Passed}
 pub tells-false : {P : Type 0} → (P → ⊥) → Tells false P
 tells-false h = record { yes = λ e. absurd (false≢true e); so = λ x. absurd (h x) }
 
+-- two tests of one thing say the same
+tells-same : {P : Type 0} (a b : Bool) → Tells a P → Tells b P → a ≡ b
+tells-same true b t u = sym (u .so (t .yes refl))
+tells-same false true t u = t .so (u .yes refl)
+tells-same false false t u = refl
+
 module _ (c : List ℕ) where
+  -- what the pass holds after r productions is one thing
+  pub only-pass : (r : ℕ) (p q : Passed) → After c r p → After c r q → p ≡ q
+  only-pass r p q h k =
+      let e : p .sum ≡ q .sum = h .sum ∙ sym (k .sum) in
+      let f : p .fault ≡ q .fault = tells-same (p .fault) (q .fault) (h .fault) (k .fault) in
+      ap₂ held e f
+    where
+      held : ℕ → Bool → Passed
+      held s b = record { sum = s; fault = b }
+
   -- ---- one symbol more
 
   -- what a test says of the number where symbol k stands it says of symbol k

@@ -1,5 +1,4 @@
 use mathlib.Core.Path.{sym, _∙_}
-use denote.Ref.{now}
 use lib.ListN.{length}
 use native.Mathlib.Nat.{le-of-eq}
 use borrow.Author.Needs.{needs}

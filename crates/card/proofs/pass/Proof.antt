@@ -4,7 +4,7 @@ use native.Mathlib.Omega.{arith}
 use borrow.Author.Needs.{needs}
 use Rattle.grammar.specs.Card.{startOf}
 use Rattle.card.specs.Pass.{After}
-use Rattle.card.proofs.PassLaws.{tells-false, none-here}
+use Rattle.card.proofs.PassLaws.{tells-false}
 use Rattle.card.proofs.pass.Statement.{statement}
 use Rattle.card.proofs.pass.Tie as tie
 

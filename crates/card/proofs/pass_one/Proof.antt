@@ -1,8 +1,7 @@
-use mathlib.Core.Path.{_≡_, sym, ap, _∙_}
+use mathlib.Core.Path.{_∙_}
 use native.Mathlib.Omega.{arith}
 use denote.Ref.{now}
 use borrow.Author.Needs.{needs}
-use Rattle.grammar.specs.Card.{startOf}
 use Rattle.card.proofs.PassLaws.{next-production, start-most}
 use Rattle.card.proofs.pass_one.Statement.{statement}
 use Rattle.card.proofs.pass_one.Tie as tie
@@ -15,7 +14,9 @@ add-sum c =
 returns : tie.Need-returns
 returns c =
     let start = c .before .before .before .before .before .before .before in
-    next-production _ _ _ (start .args .p) _ (start .pre .0) (c .before .before .before .before .wider .ensures ∙ c .before .before .before .before .before .length .ensures) (rw (c .before .before .as-far .ensures) at (c .before .refused .ensures))
+    let more = c .before .before .before .before .wider .ensures ∙ c .before .before .before .before .before .length .ensures in
+    let found = rw (c .before .before .as-far .ensures) at (c .before .refused .ensures) in
+    next-production _ _ _ (start .args .p) _ (start .pre .0) more found
 
 pub pass-one-spec : {M : Type 1} → statement M
 pass-one-spec =
