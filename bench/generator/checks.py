@@ -1,5 +1,5 @@
 #!/usr/bin/env python3
-"""Instructions of calls that the checks of the card end, on cards with P 128 and
+"""Instructions of calls that end in a check of the card, on cards with P 128 and
 L 512. checks.sh builds what it needs and calls it.
 
     checks.py FOLDER ARCHIVE..
@@ -16,22 +16,23 @@ sys.dont_write_bytecode = True
 import bench  # noqa: E402
 
 T, N, P, L = 64, 60, 128, 512
-GOOD = [1] * (L - 1)
+GOOD = [1] * (L - 2)
 ALIKE = [L // P] * P
 EMPTY = [0] * (P - 1)
 
 
-def card(name, answer, lengths, last_symbol=T + N, last_left=T):
+def card(name, answer, lengths, last_symbol=T + N, last_left=T, first_symbol=1):
     found = bench.Card("checks", name)
-    found.numbers = [T, N, P, L] + [T] * (P - 1) + [last_left] + lengths + GOOD + [last_symbol]
+    found.numbers = [T, N, P, L] + [T] * (P - 1) + [last_left] + lengths + [first_symbol] + GOOD + [last_symbol]
     found.answer = [answer, 0, 0, 0, 0]
     return found
 
 
-# Bad symbols stand last, so that the checks go through all of them.
+# But for one card a bad symbol stands last, so that all symbols are looked at.
 CARDS = [
     card("last-left-side-bad", 7, ALIKE, last_left=0),
     card("128-of-4,last-symbol-bad", 9, ALIKE),
+    card("128-of-4,first-symbol-bad", 9, ALIKE, last_symbol=1, first_symbol=T + N),
     card("128-of-4,last-length-5", 8, ALIKE[1:] + [5], last_symbol=1),
     card("128-of-4,both-faults", 8, ALIKE[1:] + [5]),
     card("512-then-127-empty,last-bad", 9, [L] + EMPTY),

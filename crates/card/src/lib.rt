@@ -6,7 +6,7 @@ ghost use lib.ListN.{length, getD};
 ghost use Rattle.sets.specs.Bit.{Tells};
 ghost use Rattle.sets.specs.Tests.{between as betweenOf};
 ghost use Rattle.grammar.specs.Card.{terminals as terminalsOf, nonterminals as nonterminalsOf, productions as productionsOf, symbols as symbolsOf, symbolsAt, leftOf, lengthOf, symbolOf, startOf, isNonterminal, isSymbol, sizesOk, leftsOk, formFault};
-ghost use Rattle.card.specs.Pass.{Refused, After, Whole, sidesFault};
+ghost use Rattle.card.specs.Pass.{BadSymbol, After, SymbolsThere, Sized};
 
 pub fn wide(x: u16) -> usize
     ensures { λ r. ⌜ r ≡ x ⌝ }
@@ -150,15 +150,15 @@ fn lefts_ok(c: &[u16]) -> bool
 
 // What the pass over the productions holds after some of them: the sum of their lengths, and whether one of that
 // many first symbols, as far as L goes, is one that 9 refuses.
-struct Passed {
+struct PassState {
     sum: u32,
     fault: bool,
 }
 
 // Whether one of the symbols from a on and before b, all of them in the card, is one that 9 refuses.
-fn refused(c: &[u16], a: u32, b: u32) -> bool
+fn bad_symbol(c: &[u16], a: u32, b: u32) -> bool
     requires { ⌜ symbolsAt (now c) + b ≤ length (now c) ⌝ }
-    ensures { λ r. ⌜ Tells r (Refused (now (c .entry)) a b) ⌝ }
+    ensures { λ r. ⌜ Tells r (BadSymbol (now (c .entry)) a b) ⌝ }
 {
     let first = symbols_at(c);
     let mut k = a;
@@ -171,7 +171,7 @@ fn refused(c: &[u16], a: u32, b: u32) -> bool
     false
 }
 
-// How many the first n symbols are, as far as L goes.
+// The number of the first n symbols, as far as L goes.
 fn as_far(c: &[u16], n: u32) -> u32
     ensures { λ m. ⌜ m ≡ min n (symbolsOf (now (c .entry))) ⌝ }
 {
@@ -180,25 +180,25 @@ fn as_far(c: &[u16], n: u32) -> u32
 }
 
 // The step of the pass: production r after those before it.
-fn pass_one(c: &[u16], r: u16, p: Passed) -> Passed
-    requires { ⌜ After (now c) r p × Whole (now c) ⌝ }
+fn pass_one(c: &[u16], r: u16, p: PassState) -> PassState
+    requires { ⌜ After (now c) r p × SymbolsThere (now c) ⌝ }
     ensures { λ q. ⌜ After (now (c .entry)) (r + 1) q ⌝ }
 {
     let sum = p.sum + wider(length(c, r));
-    let fault = p.fault | refused(c, p.sum, as_far(c, sum));
-    Passed {
+    let fault = p.fault | bad_symbol(c, p.sum, as_far(c, sum));
+    PassState {
         sum: sum,
         fault: fault,
     }
 }
 
 // The whole pass.
-fn pass(c: &[u16]) -> Passed
-    requires { ⌜ Whole (now c) ⌝ }
+fn pass(c: &[u16]) -> PassState
+    requires { ⌜ SymbolsThere (now c) ⌝ }
     ensures { λ p. ⌜ After (now (c .entry)) (productionsOf (now (c .entry))) p ⌝ }
 {
     let n = productions(c);
-    let mut p = Passed {
+    let mut p = PassState {
         sum: 0,
         fault: false,
     };
@@ -210,17 +210,19 @@ fn pass(c: &[u16]) -> Passed
     p
 }
 
-// The first of the refusals 7 to 9 that applies, or 0. 8 and 9 are read off what the pass holds at its end.
+// The first of the refusals 7 to 9 that applies, or 0, to a card to which 4 to 6 do not. 8 and 9 are read off what the
+// pass holds at its end.
 fn sides_fault(c: &[u16]) -> u16
-    requires { ⌜ Whole (now c) ⌝ }
-    ensures { λ r. ⌜ r ≡ sidesFault (now (c .entry)) ⌝ }
+    requires { ⌜ Sized (now c) ⌝ }
+    ensures { λ r. ⌜ r ≡ formFault (now (c .entry)) ⌝ }
 {
     if !lefts_ok(c) {
         return 7;
     }
     let p = pass(c);
+    let sum = p.sum;
     let l = wider(symbols(c));
-    if p.sum != l {
+    if sum != l {
         return 8;
     }
     if p.fault {

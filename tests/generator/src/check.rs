@@ -176,10 +176,10 @@ pub struct Counts {
 }
 
 impl Counts {
-    /// Of one of the three kinds of wrong right sides there was one card in 200, or
+    /// Of one of the three kinds of wrong right sides there was one card in 400, or
     /// fewer.
     pub fn few_right_sides(&self) -> bool {
-        self.right_sides.iter().any(|&cards| cards <= self.cards / 200)
+        self.right_sides.iter().any(|&cards| cards <= self.cards / 400)
     }
 }
 

@@ -73,7 +73,7 @@ fn compare(seed: u64, cards: u64) -> bool {
     }
     let few = checker.counts.few_right_sides();
     if few {
-        println!("FAILED: only 8, only 9 or both for one card in 200, or fewer");
+        println!("FAILED: only 8, only 9 or both for one card in 400, or fewer");
     }
     unseen.is_empty() && !few
 }
@@ -125,13 +125,13 @@ fn self_check(seed: u64, cards: u64) -> bool {
         println!("FAILED: {} at card {card}: {what}", base.name);
         return false;
     }
-    if !pass::is_right(seed, cards / 10) {
-        println!("FAILED: one pass without a fault");
+    if let Some(card) = pass::wrong_card(seed, cards / 10) {
+        println!("FAILED: one pass without a fault: {card:?}");
         return false;
     }
     // Cards of a kind that are too few are told, and only they.
     let few =
-        |right_sides| Counts { cards: 200, right_sides, ..Counts::default() }.few_right_sides();
+        |right_sides| Counts { cards: 400, right_sides, ..Counts::default() }.few_right_sides();
     if few([2, 2, 2]) || !few([1, 2, 2]) || !few([2, 1, 2]) || !few([2, 2, 1]) {
         println!("FAILED: the count of right sides refused");
         return false;

@@ -40,15 +40,13 @@ pub enum Fault {
     PastHighest,
 }
 
-/// Without a fault it finds what the reference finds, on so many random cards.
-pub fn is_right(seed: u64, cards: u64) -> bool {
+/// The first of so many random cards on which the pass without a fault finds
+/// something other than the reference.
+pub fn wrong_card(seed: u64, cards: u64) -> Option<Vec<u16>> {
     let mut random = Random::new(seed);
-    (0..cards).all(|_| {
-        let numbers = card(&mut random);
-        match parse(&numbers) {
-            Err(4..=7) => true,
-            other => refusal(&numbers, Fault::None) == other.err().unwrap_or(0),
-        }
+    (0..cards).map(|_| card(&mut random)).find(|numbers| match parse(numbers) {
+        Err(4..=7) => false,
+        other => refusal(numbers, Fault::None) != other.err().unwrap_or(0),
     })
 }
 

@@ -1,8 +1,7 @@
 use mathlib.Core.Path.{sym, _∙_}
 use lib.ListN.{length}
-use native.Mathlib.Nat.{le-of-eq}
 use borrow.Author.Needs.{needs}
-use borrow.Author.Tests.{eqb-true, not-true, not-false, le-leb, lt-leb}
+use borrow.Author.Tests.{not-true, not-false, le-leb, lt-leb}
 use Rattle.grammar.specs.Card.{formFault}
 use Rattle.card.proofs.form_fault.Statement.{statement}
 use Rattle.card.proofs.form_fault.Tie as tie
@@ -32,20 +31,14 @@ returns-3 c =
     )
 
 sides-fault-requires : tie.Need-sides-fault-requires
-sides-fault-requires c κs = le-of-eq (sym (eqb-true _ _ (sym (c .before .length-ok .ensures) ∙ not-false _ (c .if3 .left))))
-
-returns-4 : tie.Need-returns-4
-unfolding formFault
-returns-4 c =
-    let b1 = c .before in
-    let b3 = b1 .before .before in
-    let b5 = b3 .before .before in
-    rw (
-      le-leb 4 (length _) (b5 .if1 .left),
-      sym (b3 .before .sizes-ok .ensures) ∙ not-false _ (b3 .if2 .left),
-      sym (b1 .before .length-ok .ensures) ∙ not-false _ (b1 .if3 .left),
-    )
-    (c .sides-fault .ensures)
+sides-fault-requires c κs =
+    let b2 = c .before .before in
+    let b4 = b2 .before .before in
+    record {
+      long = le-leb 4 _ (b4 .if1 .left);
+      sizes = sym (b2 .before .sizes-ok .ensures) ∙ not-false _ (b2 .if2 .left);
+      whole = sym (c .before .length-ok .ensures) ∙ not-false _ (c .if3 .left);
+    }
 
 pub form-fault-spec : {M : Type 1} → statement M
 form-fault-spec =
@@ -57,4 +50,4 @@ form-fault-spec =
     (λ c κs. search needs)
     returns-3
     sides-fault-requires
-    returns-4)
+    (λ c. c .sides-fault .ensures))

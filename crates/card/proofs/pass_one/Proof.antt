@@ -15,7 +15,7 @@ returns : tie.Need-returns
 returns c =
     let start = c .before .before .before .before .before .before .before in
     let more = c .before .before .before .before .wider .ensures ∙ c .before .before .before .before .before .length .ensures in
-    let found = rw (c .before .before .as-far .ensures) at (c .before .refused .ensures) in
+    let found = rw (c .before .before .as-far .ensures) at (c .before .bad-symbol .ensures) in
     next-production _ _ _ (start .args .p) _ (start .pre .0) more found
 
 pub pass-one-spec : {M : Type 1} → statement M

@@ -4,13 +4,13 @@ use native.Mathlib.Nat.{le-refl}
 use native.Mathlib.Omega.{arith}
 use borrow.Author.Needs.{needs}
 use borrow.Author.Tests.{not-true, not-false}
-use Rattle.card.specs.Pass.{Refused}
-use Rattle.card.proofs.PassLaws.{tells-false, of-symbol, none-here, none-more, refused-within}
-use Rattle.card.proofs.refused.Statement.{statement}
-use Rattle.card.proofs.refused.Tie as tie
+use Rattle.card.specs.Pass.{BadSymbol}
+use Rattle.card.proofs.PassLaws.{tells-false, of-symbol, none-here, none-more, bad-within}
+use Rattle.card.proofs.bad_symbol.Statement.{statement}
+use Rattle.card.proofs.bad_symbol.Tie as tie
 
 abbrev Inv-loop : tie.InvT-loop
-Inv-loop c a b first k₀ k = (Refused c a k → ⊥) × (a ≤ k)
+Inv-loop c a b first k₀ k = (BadSymbol c a k → ⊥) × (a ≤ k)
 
 abbrev μ-loop : tie.MeasureT-loop
 μ-loop c a b first k₀ k = b - k
@@ -24,7 +24,7 @@ returns c =
     let place = ap₂ _+_ (c .before .before .before .before .before .before .symbols-at .ensures .0) (c .before .before .before .wide32 .ensures) in
     let wrong = of-symbol _ _ _ place (c .before .is-symbol .ensures) ∙ not-true _ (c .if1 .taken) in
     record {
-      yes = λ e. record { place = loop .k; from = loop .inv .1; to = c .before .before .before .before .loop-test .taken; refused = wrong };
+      yes = λ e. record { place = loop .k; from = loop .inv .1; to = c .before .before .before .before .loop-test .taken; bad = wrong };
       so = λ x. refl;
     }
 
@@ -36,10 +36,10 @@ loop-again c =
     (none-more _ _ _ (loop .inv .0) right, omega arith)
 
 returns-2 : tie.Need-returns-2 Inv-loop μ-loop
-returns-2 c = tells-false (λ x. c .before .loop .inv .0 (refused-within _ (le-refl _) (c .loop-test .left) x))
+returns-2 c = tells-false (λ x. c .before .loop .inv .0 (bad-within _ (le-refl _) (c .loop-test .left) x))
 
-pub refused-spec : {M : Type 1} → statement M
-refused-spec =
+pub bad-symbol-spec : {M : Type 1} → statement M
+bad-symbol-spec =
     tie.close
     (tie.spec
     Inv-loop
