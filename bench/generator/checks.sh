@@ -6,12 +6,14 @@
 set -e
 root=$(cd "$(dirname "$0")/../.." && pwd)
 out=$root/target/bench/generator
-mkdir -p "$out"
-command -v valgrind >/dev/null || apt-get install -y valgrind >/dev/null
 [ $# -gt 0 ] || set -- "$root/target/staticlib/libgenerator_c.a"
+for archive; do
+    [ -f "$archive" ] || { echo "no archive $archive" >&2; exit 2; }
+done
+command -v valgrind >/dev/null || apt-get install -y valgrind >/dev/null || { echo "no valgrind" >&2; exit 2; }
+mkdir -p "$out"
 number=0
 for archive; do
-    [ -f "$archive" ] || { echo "no archive $archive"; exit 2; }
     number=$((number + 1))
     gcc -O2 -Wall -Wextra -I"$root/bindings/c" "$root/bench/generator/calls.c" "$archive" -o "$out/calls-$number" \
         -Wl,-z,now -lpthread -ldl -lm

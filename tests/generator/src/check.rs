@@ -12,6 +12,7 @@ use reference::random::Random;
 use reference::spans::{Derivations, Spans};
 
 use crate::abi::{Generator, Parser};
+use crate::guarded::Guarded;
 
 /// Places behind the areas lent, which nobody may touch.
 const FENCE: usize = 24;
@@ -70,8 +71,15 @@ impl<T: Copy + PartialEq + Default> Area<T> {
     }
 }
 
-/// The generator's three areas.
+/// The longest card, in bytes.
+const CARD: usize = 65_536;
+
+/// The generator's card, directly before a page that nobody may touch, and its three
+/// areas.
 pub struct Areas {
+    card: Guarded,
+    /// The card, and the bytes before it, are as they were after the call.
+    card_kept: bool,
     table: Area<u16>,
     work: Area<u64>,
     work2: Area<u32>,
@@ -80,6 +88,8 @@ pub struct Areas {
 impl Areas {
     pub fn new(random: &mut Random) -> Areas {
         Areas {
+            card: Guarded::new(CARD),
+            card_kept: true,
             table: Area::new(random, TABLE_LENGTH, |n| n as u16),
             work: Area::new(random, WORK_LENGTH, |n| n),
             work2: Area::new(random, WORK2_LENGTH, |n| n as u32),
@@ -97,11 +107,20 @@ impl Areas {
         self.table.lend(random, short[0]);
         self.work.lend(random, short[1]);
         self.work2.lend(random, short[2]);
-        generator(numbers, self.table.area(), self.work.area(), self.work2.area())
+        assert!(std::mem::size_of_val(numbers) <= CARD, "a card of {} numbers", numbers.len());
+        let placed = self.card.place(numbers);
+        // SAFETY: so many numbers were placed there.
+        let card = unsafe { std::slice::from_raw_parts(placed, numbers.len()) };
+        let out = generator(card, self.table.area(), self.work.area(), self.work2.area());
+        self.card_kept = self.card.take() == Some(numbers);
+        out
     }
 
     /// Fails where answer or areas differ from what is expected.
     pub fn compare(&self, expected: &Answer, out: [u64; 5]) -> Result<(), String> {
+        if !self.card_kept {
+            return Err("the card was written".into());
+        }
         if out != expected.out() {
             return Err(format!("answer {out:?}, expected {:?}", expected.out()));
         }
@@ -229,7 +248,7 @@ impl Checker {
 
         self.counts.cards += 1;
         let both = self.counts.cards.is_multiple_of(self.both);
-        let Areas { table, work, work2 } = &self.areas;
+        let Areas { table, work, work2, .. } = &self.areas;
         let expected = match short_area(table.length, work.length, work2.length) {
             Some(refused) => refused,
             None => {

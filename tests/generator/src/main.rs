@@ -3,6 +3,7 @@
 //!
 //!     generator-tests random            compares the linked archives with the reference
 //!     generator-tests self-check        requires that wrong generators and parsers are found
+//!     generator-tests reads-behind      dies: its generator looks at a symbol behind L
 //!     generator-tests sums              compares joins of completed families with the archive
 //!     generator-tests measure FILE..    prints sizes and times of stored cards
 //!     generator-tests climb WHAT FILE.. looks for cards with more WHAT: time, reads,
@@ -13,6 +14,9 @@
 mod abi;
 mod cards;
 mod check;
+#[rustfmt::skip]
+#[path = "../../reader/src/guarded.rs"]
+mod guarded;
 mod lookaheads;
 mod measure;
 mod pass;
@@ -21,7 +25,7 @@ mod sums;
 mod walks;
 mod wrong;
 
-use std::process::ExitCode;
+use std::process::{Command, ExitCode};
 use std::time::Instant;
 
 use check::{Checker, Counts};
@@ -99,19 +103,43 @@ fn found(
     None
 }
 
+fn parser(t: &[u16], i: &[u8], s: &mut [u16], l: &mut [u16], limit: u32) -> [u64; 7] {
+    reference::parser::parse(t, i, s, l, limit).out()
+}
+
+fn generator(c: &[u16], t: &mut [u16], w: &mut [u64], v: &mut [u32]) -> [u64; 5] {
+    use reference::answer::{answer, generate, Method};
+    generate(c, t, w, v, |card| answer(card, Method::Spreading).expect("an answer"))
+}
+
+/// With a generator that is right but looks at a symbol behind L where the lengths
+/// are wrong: the process must not live to the end of it.
+fn reads_behind(seed: u64, cards: u64) -> bool {
+    let reads = |c: &[u16], t: &mut [u16], w: &mut [u64], v: &mut [u32]| {
+        let out = generator(c, t, w, v);
+        if out[0] == 8 {
+            // SAFETY: none; it is what the page behind the card is to stop.
+            unsafe { c.as_ptr().add(c.len()).read_volatile() };
+        }
+        out
+    };
+    found(seed, cards, true, &reads, &parser).is_none()
+}
+
+/// Whether a process of its own is ended by a signal in `reads_behind`.
+fn reads_behind_dies() -> bool {
+    let program = std::env::current_exe().expect("this program");
+    let status = Command::new(program).arg("reads-behind").status().expect("a process");
+    status.code().is_none()
+}
+
 fn self_check(seed: u64, cards: u64) -> bool {
-    fn parser(t: &[u16], i: &[u8], s: &mut [u16], l: &mut [u16], limit: u32) -> [u64; 7] {
-        reference::parser::parse(t, i, s, l, limit).out()
-    }
-    fn generator(c: &[u16], t: &mut [u16], w: &mut [u64], v: &mut [u32]) -> [u64; 5] {
-        use reference::answer::{answer, generate, Method};
-        generate(c, t, w, v, |card| answer(card, Method::Spreading).expect("an answer"))
-    }
     println!("seed {seed}, at most {cards} cards each");
     let (mut told, mut missed) = (0, 0);
     let mut tell = |name: &str, result: Option<(u64, String)>| {
         told += 1;
         match result {
+            Some((0, what)) => println!("found: {name} ({what})"),
             Some((card, what)) => println!("found at card {card:>6}: {name} ({what})"),
             None => {
                 println!("NOT FOUND: {name}");
@@ -145,6 +173,8 @@ fn self_check(seed: u64, cards: u64) -> bool {
     for (name, wrong) in wrong::parsers() {
         tell(name, found(seed, cards, true, &generator, &wrong));
     }
+    let died = reads_behind_dies().then(|| (0, "ended by a signal".to_string()));
+    tell("a symbol behind L looked at", died);
     println!("{told} wrong generators and parsers, {missed} not found");
     missed == 0
 }
@@ -157,6 +187,7 @@ fn main() -> ExitCode {
     let good = match arguments.iter().map(String::as_str).collect::<Vec<_>>()[..] {
         ["random"] => compare(seed, cards),
         ["self-check"] => self_check(seed, cards),
+        ["reads-behind"] => reads_behind(seed, cards),
         ["sums"] => sums::sums(seed, setting("CARDS", 10_000)),
         ["measure", _, ..] => measure::measure_files(&arguments[1..]),
         ["climb", what, _, ..] => {

@@ -72,6 +72,19 @@ fn by_areas(
     Wrong { name, generator: Box::new(generator) }
 }
 
+/// Right, but the last number of the card is another afterwards.
+fn card_written(name: &'static str) -> Wrong {
+    let generator = |card: &[u16], t: &mut [u16], w: &mut [u64], v: &mut [u32]| {
+        let out = generate(card, t, w, v, right);
+        if let Some(last) = card.last() {
+            // SAFETY: none but that the card stands in memory that can be written.
+            unsafe { std::ptr::from_ref(last).cast_mut().write_volatile(!*last) };
+        }
+        out
+    };
+    Wrong { name, generator: Box::new(generator) }
+}
+
 /// The same automaton with other numbers for its states.
 fn renumbered(found: &Automaton, order: &[usize]) -> Automaton {
     let symbols = order.len() + 1;
@@ -312,6 +325,7 @@ pub fn generators() -> Vec<Wrong> {
             }
             finish(grammar, &found)
         }),
+        card_written("the card written"),
         // Checks.
         by_pass("lengths added in 16 bits", pass::Fault::SumWraps),
         by_pass("lengths added up to L only", pass::Fault::SumStops),
