@@ -1,6 +1,6 @@
 -- What the pass holds, symbol by symbol and production by production; that 8 and 9 are read off its end.
 use mathlib.Core.Path.{_≡_, refl, sym, ap, ap₂, _∙_}
-use mathlib.Core.Bool.{Bool, true, false, _||_, false≢true}
+use mathlib.Core.Bool.{Bool, true, false, false≢true}
 use mathlib.Core.List.{List}
 use mathlib.Core.Logic.{⊎-elim}
 use Prim.Native.Nat.{ℕ, zero, suc, _+_, _*_, _≤_, _<_, min, zero-le}
@@ -59,21 +59,31 @@ module _ (c : List ℕ) where
   pub bad-within : {a b m n : ℕ} → b ≤ a → m ≤ n → BadSymbol c a m → BadSymbol c b n
   bad-within h k x = record { place = x .place; from = omega (arith, x .from); to = omega (arith, x .to); bad = x .bad }
 
-  next-fault : (s n : ℕ) (a b : Bool) → s ≤ n → Tells a (BadSymbol c 0 (min s (symbols c))) → Tells b (BadSymbol c s (min n (symbols c))) → Tells (a || b) (BadSymbol c 0 (min n (symbols c)))
-  next-fault s n true b h t u = record { yes = λ e. bad-within zero-le (omega arith) (t .yes refl); so = λ x. refl }
-  next-fault s n false b h t u = record { yes = λ e. bad-within zero-le (omega arith) (u .yes e); so = λ x. ⊎-elim (before x) (behind x) (lt-or-ge (x .place) s) }
-    where
-      before : (x : BadSymbol c 0 (min n (symbols c))) → x .place < s → b ≡ true
-      before x w = absurd (false≢true (t .so (record { place = x .place; from = zero-le; to = omega (arith, x .to); bad = x .bad })))
-
-      behind : (x : BadSymbol c 0 (min n (symbols c))) → s ≤ x .place → b ≡ true
-      behind x w = u .so (record { place = x .place; from = w; to = x .to; bad = x .bad })
-
-  pub next-production : (r d : ℕ) (p : PassState) (b : Bool) → After c r p → d ≡ lengthOf c r → Tells b (BadSymbol c (p .sum) (min (p .sum + d) (symbols c))) → After c (r + 1) (record { sum = p .sum + d; fault = p .fault || b })
+  next-sum : (r d : ℕ) (p : PassState) → After c r p → d ≡ lengthOf c r → p .sum + d ≡ startOf c (r + 1)
   unfolding startOf
-  next-production r d p b h e t =
-      let sum : p .sum + d ≡ startOf c (r + 1) = rw (add-one, h .sum, e) in
-      record { sum = sum; fault = rw sum at (next-fault (p .sum) (p .sum + d) (p .fault) b (omega arith) (rw (h .sum) (h .fault)) t) }
+  next-sum r d p h e = rw (add-one, h .sum, e)
+
+  -- a fault stays
+  pub next-faulty : (r d : ℕ) (p : PassState) → After c r p → d ≡ lengthOf c r → p .fault ≡ true → After c (r + 1) (record { sum = p .sum + d; fault = true })
+  next-faulty r d p h e f =
+      let more = next-sum r d p h e in
+      record { sum = more; fault = record { yes = λ _. bad-within zero-le (omega (arith, h .sum)) (h .fault .yes f); so = λ _. refl } }
+
+  -- without one so far, there is one just where it is among the symbols of the production
+  pub next-sound : (r d : ℕ) (p : PassState) (b : Bool) → After c r p → d ≡ lengthOf c r → p .fault ≡ false → Tells b (BadSymbol c (p .sum) (min (p .sum + d) (symbols c))) → After c (r + 1) (record { sum = p .sum + d; fault = b })
+  next-sound r d p b h e f t = record { sum = more; fault = rw more at all }
+    where
+      more : p .sum + d ≡ startOf c (r + 1)
+      more = next-sum r d p h e
+
+      before : (x : BadSymbol c 0 (min (p .sum + d) (symbols c))) → x .place < p .sum → b ≡ true
+      before x w = absurd (false≢true (sym f ∙ h .fault .so (record { place = x .place; from = zero-le; to = omega (arith, x .to, h .sum); bad = x .bad })))
+
+      behind : (x : BadSymbol c 0 (min (p .sum + d) (symbols c))) → p .sum ≤ x .place → b ≡ true
+      behind x w = t .so (record { place = x .place; from = w; to = x .to; bad = x .bad })
+
+      all : Tells b (BadSymbol c 0 (min (p .sum + d) (symbols c)))
+      all = record { yes = λ g. bad-within zero-le (omega arith) (t .yes g); so = λ x. ⊎-elim (before x) (behind x) (lt-or-ge (x .place) (p .sum)) }
 
   -- lengths of 16 bits add up to at most 65,535 for each production
   pub start-most : (r : ℕ) → ((i : ℕ) → getD c i 0 ≤ 65535) → startOf c r ≤ r * 65535

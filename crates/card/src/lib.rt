@@ -151,19 +151,19 @@ fn lefts_ok(c: &[u16]) -> bool
 // What the pass over the productions holds after some of them: the sum of their lengths, and whether one of that
 // many first symbols, as far as L goes, is one that 9 refuses.
 struct PassState {
-    sum: u32,
+    sum: usize,
     fault: bool,
 }
 
 // Whether one of the symbols from a on and before b, all of them in the card, is one that 9 refuses.
-fn bad_symbol(c: &[u16], a: u32, b: u32) -> bool
+fn bad_symbol(c: &[u16], a: usize, b: usize) -> bool
     requires { ⌜ symbolsAt (now c) + b ≤ length (now c) ⌝ }
     ensures { λ r. ⌜ Tells r (BadSymbol (now (c .entry)) a b) ⌝ }
 {
     let first = symbols_at(c);
     let mut k = a;
     while k < b {
-        if !is_symbol(c, c[first + wide32(k)]) {
+        if !is_symbol(c, c[first + k]) {
             return true;
         }
         k += 1;
@@ -172,20 +172,26 @@ fn bad_symbol(c: &[u16], a: u32, b: u32) -> bool
 }
 
 // The number of the first n symbols, as far as L goes.
-fn as_far(c: &[u16], n: u32) -> u32
+fn as_far(c: &[u16], n: usize) -> usize
     ensures { λ m. ⌜ m ≡ min n (symbolsOf (now (c .entry))) ⌝ }
 {
-    let l = wider(symbols(c));
+    let l = wide(symbols(c));
     if n < l { n } else { l }
 }
 
-// The step of the pass: production r after those before it.
+// The step of the pass: production r after those before it. Behind a fault no symbol has to be looked at.
 fn pass_one(c: &[u16], r: u16, p: PassState) -> PassState
     requires { ⌜ After (now c) r p × SymbolsThere (now c) ⌝ }
     ensures { λ q. ⌜ After (now (c .entry)) (r + 1) q ⌝ }
 {
-    let sum = p.sum + wider(length(c, r));
-    let fault = p.fault | bad_symbol(c, p.sum, as_far(c, sum));
+    let sum = p.sum + wide(length(c, r));
+    if p.fault {
+        return PassState {
+            sum: sum,
+            fault: true,
+        };
+    }
+    let fault = bad_symbol(c, p.sum, as_far(c, sum));
     PassState {
         sum: sum,
         fault: fault,
@@ -219,13 +225,13 @@ fn sides_fault(c: &[u16]) -> u16
     if !lefts_ok(c) {
         return 7;
     }
-    let p = pass(c);
-    let sum = p.sum;
-    let l = wider(symbols(c));
+    let end = pass(c);
+    let sum = end.sum;
+    let l = wide(symbols(c));
     if sum != l {
         return 8;
     }
-    if p.fault {
+    if end.fault {
         return 9;
     }
     0

@@ -1,5 +1,5 @@
-use mathlib.Core.Path.{refl, ap₂, _∙_}
-use Prim.Native.Nat.{_+_, _-_, _≤_}
+use mathlib.Core.Path.{refl, ap, _∙_}
+use Prim.Native.Nat.{ℕ, _+_, _-_, _≤_}
 use native.Mathlib.Nat.{le-refl}
 use native.Mathlib.Omega.{arith}
 use borrow.Author.Needs.{needs}
@@ -20,18 +20,18 @@ loop-holds c = (none-here _ _, le-refl _)
 
 returns : tie.Need-returns Inv-loop μ-loop
 returns c =
-    let loop = c .before .before .before .before .before .loop in
-    let place = ap₂ _+_ (c .before .before .before .before .before .before .symbols-at .ensures .0) (c .before .before .before .wide32 .ensures) in
+    let loop = c .before .before .before .before .loop in
+    let place = ap (λ (i : ℕ). i + loop .k) (c .before .before .before .before .before .symbols-at .ensures .0) in
     let wrong = of-symbol _ _ _ place (c .before .is-symbol .ensures) ∙ not-true _ (c .if1 .taken) in
     record {
-      yes = λ e. record { place = loop .k; from = loop .inv .1; to = c .before .before .before .before .loop-test .taken; bad = wrong };
+      yes = λ e. record { place = loop .k; from = loop .inv .1; to = c .before .before .before .loop-test .taken; bad = wrong };
       so = λ x. refl;
     }
 
 loop-again : tie.Need-loop-again Inv-loop μ-loop
 loop-again c =
-    let loop = c .before .before .before .before .before .loop in
-    let place = ap₂ _+_ (c .before .before .before .before .before .before .symbols-at .ensures .0) (c .before .before .before .wide32 .ensures) in
+    let loop = c .before .before .before .before .loop in
+    let place = ap (λ (i : ℕ). i + loop .k) (c .before .before .before .before .before .symbols-at .ensures .0) in
     let right = of-symbol _ _ _ place (c .before .is-symbol .ensures) ∙ not-false _ (c .if1 .left) in
     (none-more _ _ _ (loop .inv .0) right, omega arith)
 
@@ -46,7 +46,6 @@ bad-symbol-spec =
     μ-loop
     (λ c κs. search needs)
     loop-holds
-    (λ c κs. search needs)
     (λ c. search needs)
     (λ c. search needs)
     (λ c. search needs)

@@ -16,8 +16,8 @@ returns-2 c =
     let passed = c .before .before .before in
     let lefts = passed .before in
     let right = sym (lefts .before .lefts-ok .ensures) ∙ not-false _ (lefts .if1 .left) in
-    let l = c .before .wider .ensures ∙ c .before .before .symbols .ensures in
-    let differs : passed .pass .result .sum ≡ c .before .wider .result → ⊥ = c .if2 .taken in
+    let l = c .before .wide .ensures ∙ c .before .before .symbols .ensures in
+    let differs : passed .pass .result .sum ≡ c .before .wide .result → ⊥ = c .if2 .taken in
     fault-8 _ (lefts .before .before .before .pre) right (passed .pass .result) (passed .pass .ensures) (λ e. differs (e ∙ sym l))
 
 returns-3 : tie.Need-returns-3
@@ -25,7 +25,7 @@ returns-3 c =
     let passed = c .before .before .before .before in
     let lefts = passed .before in
     let right = sym (lefts .before .lefts-ok .ensures) ∙ not-false _ (lefts .if1 .left) in
-    let same = c .before .if2 .left ∙ c .before .before .wider .ensures ∙ c .before .before .before .symbols .ensures in
+    let same = c .before .if2 .left ∙ c .before .before .wide .ensures ∙ c .before .before .before .symbols .ensures in
     fault-9 _ (lefts .before .before .before .pre) right (passed .pass .result) (passed .pass .ensures) same (c .if3 .taken)
 
 returns-4 : tie.Need-returns-4
@@ -33,7 +33,7 @@ returns-4 c =
     let passed = c .before .before .before .before in
     let lefts = passed .before in
     let right = sym (lefts .before .lefts-ok .ensures) ∙ not-false _ (lefts .if1 .left) in
-    let same = c .before .if2 .left ∙ c .before .before .wider .ensures ∙ c .before .before .before .symbols .ensures in
+    let same = c .before .if2 .left ∙ c .before .before .wide .ensures ∙ c .before .before .before .symbols .ensures in
     no-fault _ (lefts .before .before .before .pre) right (passed .pass .result) (passed .pass .ensures) same (c .if3 .left)
 
 pub sides-fault-spec : {M : Type 1} → statement M
