@@ -1,5 +1,5 @@
 #!/bin/sh
-# Counts the instructions of calls that end in a check of the card, on the largest cards: checks.sh [ARCHIVE..]
+# Counts the instructions of calls that end in a check of the card: checks.sh [ARCHIVE..]
 # ARCHIVEs are libgenerator_c.a, such as one from before a change and one from after it; by default
 # target/staticlib/libgenerator_c.a of the repository. Needs gcc, python3 and Debian's valgrind, which it
 # installs where it is missing.

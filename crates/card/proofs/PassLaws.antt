@@ -26,7 +26,7 @@ tells-same false true t u = t .so (u .yes refl)
 tells-same false false t u = refl
 
 module _ (c : List ℕ) where
-  -- what the pass holds after r productions is one thing
+  -- what the pass holds after r productions is one value only
   pub only-pass : (r : ℕ) (p q : PassState) → After c r p → After c r q → p ≡ q
   only-pass r p q h k =
       let e : p .sum ≡ q .sum = h .sum ∙ sym (k .sum) in

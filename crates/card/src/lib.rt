@@ -216,8 +216,8 @@ fn pass(c: &[u16]) -> PassState
     p
 }
 
-// The first of the refusals 7 to 9 that applies, or 0, to a card to which 4 to 6 do not. 8 and 9 are read off what the
-// pass holds at its end.
+// The first of the refusals 7 to 9 that applies, or 0, where 4 to 6 do not. 8 and 9 are read off what the pass holds at
+// its end.
 fn sides_fault(c: &[u16]) -> u16
     requires { ⌜ Sized (now c) ⌝ }
     ensures { λ r. ⌜ r ≡ formFault (now (c .entry)) ⌝ }

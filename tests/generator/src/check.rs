@@ -71,14 +71,14 @@ impl<T: Copy + PartialEq + Default> Area<T> {
     }
 }
 
-/// The longest card, in bytes.
+/// Bytes of room for a card.
 const CARD: usize = 65_536;
 
 /// The generator's card, directly before a page that nobody may touch, and its three
 /// areas.
 pub struct Areas {
     card: Guarded,
-    /// The card, and the bytes before it, are as they were after the call.
+    /// After the call the card, and the bytes before it, are as they were before.
     card_kept: bool,
     table: Area<u16>,
     work: Area<u64>,

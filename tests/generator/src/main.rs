@@ -25,6 +25,7 @@ mod sums;
 mod walks;
 mod wrong;
 
+use std::os::unix::process::ExitStatusExt;
 use std::process::{Command, ExitCode};
 use std::time::Instant;
 
@@ -126,11 +127,14 @@ fn reads_behind(seed: u64, cards: u64) -> bool {
     found(seed, cards, true, &reads, &parser).is_none()
 }
 
-/// Whether a process of its own is ended by a signal in `reads_behind`.
+/// The signal for memory that may not be touched.
+const SIGSEGV: i32 = 11;
+
+/// Whether a process of its own is ended by that signal in `reads_behind`.
 fn reads_behind_dies() -> bool {
     let program = std::env::current_exe().expect("this program");
     let status = Command::new(program).arg("reads-behind").status().expect("a process");
-    status.code().is_none()
+    status.signal() == Some(SIGSEGV)
 }
 
 fn self_check(seed: u64, cards: u64) -> bool {
@@ -195,7 +199,7 @@ fn main() -> ExitCode {
             measure::climb(&mut random, setting("SEARCH_SECONDS", 60), what, &arguments[2..])
         }
         _ => {
-            println!("random, self-check, sums, measure FILE.. or climb WHAT FILE..");
+            println!("random, self-check, reads-behind, sums, measure FILE.. or climb WHAT FILE..");
             false
         }
     };

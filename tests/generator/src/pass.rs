@@ -32,7 +32,7 @@ pub enum Fault {
     NoFirstSymbol,
     /// The last symbol of each production not looked at.
     NoLastSymbol,
-    /// The last place that a symbol can have not looked at.
+    /// The last place that a symbol can have is not looked at.
     NoSymbol512,
     /// Symbol 0 taken.
     Zero,
