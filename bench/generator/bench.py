@@ -98,7 +98,7 @@ def write_grammar(card, path):
 
 
 def called(program, rounds, some, folder):
-    """Calls the generator: nanoseconds by card. The answers must be Bison's."""
+    """Calls the generator: nanoseconds by card. The answers must be those of the cards."""
     path = os.path.join(folder, "cards")
     write_cards(some, path)
     done = subprocess.run([program, str(rounds), path], capture_output=True, text=True, check=True)

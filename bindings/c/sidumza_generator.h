@@ -56,7 +56,7 @@ enum {
  * - none of table, words, halves and out overlaps another of the five.
  * - nobody else writes any of the five during the call.
  * - the thread has 640 KiB of stack left: a call can be as deep as there are transitions on nonterminals.
- *   The deepest stored card, with 2048 of them, takes 539024 bytes (tests/cases/stack.c).
+ *   The deepest stored card, with 2048 of them, takes some 540000 bytes (tests/cases/stack.c).
  * What a call costs: most cards take under 3 milliseconds, the slowest known 0.15 to 0.19 seconds (bench/generator: one
  * production of some 250 nullable symbols, where the relation reads is longest). The limits on the card bound it; no card
  * makes it run on.

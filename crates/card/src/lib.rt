@@ -1,10 +1,12 @@
 // The grammar card: its numbers, each with an answer for every slice, and the first refusal of its form.
 ghost use mathlib.Core.Path.{_≡_};
-ghost use Prim.Native.Nat.{_+_, _<_, _^_};
+ghost use Prim.Native.Nat.{_+_, _<_, _≤_, _^_, min};
 ghost use lib.Dec.{eqb};
 ghost use lib.ListN.{length, getD};
+ghost use Rattle.sets.specs.Bit.{Tells};
 ghost use Rattle.sets.specs.Tests.{between as betweenOf};
-ghost use Rattle.grammar.specs.Card.{terminals as terminalsOf, nonterminals as nonterminalsOf, productions as productionsOf, symbols as symbolsOf, symbolsAt, leftOf, lengthOf, symbolOf, startOf, isNonterminal, isSymbol, sizesOk, leftsOk, rightsOk, formFault};
+ghost use Rattle.grammar.specs.Card.{terminals as terminalsOf, nonterminals as nonterminalsOf, productions as productionsOf, symbols as symbolsOf, symbolsAt, leftOf, lengthOf, symbolOf, startOf, isNonterminal, isSymbol, sizesOk, leftsOk, formFault};
+ghost use Rattle.card.specs.Pass.{BadSymbol, After, SymbolsThere, Sized};
 
 pub fn wide(x: u16) -> usize
     ensures { λ r. ⌜ r ≡ x ⌝ }
@@ -146,18 +148,93 @@ fn lefts_ok(c: &[u16]) -> bool
     true
 }
 
-fn rights_ok(c: &[u16]) -> bool
-    ensures { λ r. ⌜ r ≡ rightsOk (now (c .entry)) ⌝ }
+// What the pass over the productions holds after some of them: the sum of their lengths, and whether one of that
+// many first symbols, as far as L goes, is one that 9 refuses.
+struct PassState {
+    sum: usize,
+    fault: bool,
+}
+
+// Whether one of the symbols from a on and before b, all of them in the card, is one that 9 refuses.
+fn bad_symbol(c: &[u16], a: usize, b: usize) -> bool
+    requires { ⌜ symbolsAt (now c) + b ≤ length (now c) ⌝ }
+    ensures { λ r. ⌜ Tells r (BadSymbol (now (c .entry)) a b) ⌝ }
 {
-    let n = wider(symbols(c));
-    let mut i: u32 = 0;
-    while i < n {
-        if !is_symbol(c, symbol(c, i)) {
-            return false;
+    let first = symbols_at(c);
+    let mut k = a;
+    while k < b {
+        if !is_symbol(c, c[first + k]) {
+            return true;
         }
-        i += 1;
+        k += 1;
     }
-    true
+    false
+}
+
+// The number of the first n symbols, as far as L goes.
+fn as_far(c: &[u16], n: usize) -> usize
+    ensures { λ m. ⌜ m ≡ min n (symbolsOf (now (c .entry))) ⌝ }
+{
+    let l = wide(symbols(c));
+    if n < l { n } else { l }
+}
+
+// The step of the pass: production r after those before it. Behind a fault no symbol has to be looked at.
+fn pass_one(c: &[u16], r: u16, p: PassState) -> PassState
+    requires { ⌜ After (now c) r p × SymbolsThere (now c) ⌝ }
+    ensures { λ q. ⌜ After (now (c .entry)) (r + 1) q ⌝ }
+{
+    let sum = p.sum + wide(length(c, r));
+    if p.fault {
+        return PassState {
+            sum: sum,
+            fault: true,
+        };
+    }
+    let fault = bad_symbol(c, p.sum, as_far(c, sum));
+    PassState {
+        sum: sum,
+        fault: fault,
+    }
+}
+
+// The whole pass.
+fn pass(c: &[u16]) -> PassState
+    requires { ⌜ SymbolsThere (now c) ⌝ }
+    ensures { λ p. ⌜ After (now (c .entry)) (productionsOf (now (c .entry))) p ⌝ }
+{
+    let n = productions(c);
+    let mut p = PassState {
+        sum: 0,
+        fault: false,
+    };
+    let mut r: u16 = 0;
+    while r < n {
+        p = pass_one(c, r, p);
+        r += 1;
+    }
+    p
+}
+
+// The first of the refusals 7 to 9 that applies, or 0, where 4 to 6 do not. 8 and 9 are read off what the pass holds at
+// its end.
+fn sides_fault(c: &[u16]) -> u16
+    requires { ⌜ Sized (now c) ⌝ }
+    ensures { λ r. ⌜ r ≡ formFault (now (c .entry)) ⌝ }
+{
+    if !lefts_ok(c) {
+        return 7;
+    }
+    let end = pass(c);
+    let sum = end.sum;
+    let l = wide(symbols(c));
+    if sum != l {
+        return 8;
+    }
+    if end.fault {
+        return 9;
+    }
+    0
 }
 
 // The first of the refusals 4 to 9 that applies, or 0.
@@ -173,14 +250,5 @@ pub fn form_fault(c: &[u16]) -> u16
     if !length_ok(c) {
         return 6;
     }
-    if !lefts_ok(c) {
-        return 7;
-    }
-    if start(c, productions(c)) != wider(symbols(c)) {
-        return 8;
-    }
-    if !rights_ok(c) {
-        return 9;
-    }
-    0
+    sides_fault(c)
 }

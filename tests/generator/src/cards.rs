@@ -1,5 +1,6 @@
 //! Random cards: small ones with empty, unit and cyclic productions, known
-//! grammars with a change, large ones up to the limits, and damaged ones.
+//! grammars with a change, large ones up to the limits, damaged ones, and ones whose
+//! right sides alone are wrong.
 
 use reference::card::{Card, MAX_NONTERMINALS, MAX_PRODUCTIONS, MAX_SYMBOLS, MAX_TERMINALS};
 use reference::grammar::useless;
@@ -450,11 +451,106 @@ fn damaged(random: &mut Random, numbers: &mut Vec<u16>) {
     }
 }
 
+/// The first, the last or any of `count` places.
+fn end_or_any(random: &mut Random, count: usize) -> usize {
+    match random.below(3) {
+        0 => 0,
+        1 => count - 1,
+        _ => random.below(count),
+    }
+}
+
+/// Lengths of `p` right sides that add up to `l`: alike, as they come, or all in
+/// one of them.
+fn lengths(random: &mut Random, p: usize, l: usize) -> Vec<usize> {
+    match random.below(3) {
+        0 => (0..p).map(|at| l / p + usize::from(at < l % p)).collect(),
+        1 => {
+            let mut cuts: Vec<usize> = (1..p).map(|_| random.below(l + 1)).collect();
+            cuts.extend([0, l]);
+            cuts.sort_unstable();
+            cuts.windows(2).map(|cut| cut[1] - cut[0]).collect()
+        }
+        _ => {
+            let filled = end_or_any(random, p);
+            (0..p).map(|at| if at == filled { l } else { 0 }).collect()
+        }
+    }
+}
+
+/// Changes lengths so that they do not add up to `l`.
+fn wrong_lengths(random: &mut Random, lengths: &mut [usize], l: usize) {
+    let (p, most) = (lengths.len(), 65_535);
+    while lengths.iter().sum::<usize>() == l {
+        let (one, two) = (random.below(p), random.below(p));
+        match random.below(7) {
+            0 => lengths[one] += 1,
+            1 => lengths[one] = lengths[one].saturating_sub(1),
+            2 => lengths[one] = random.below(lengths[one] + 1),
+            3 => lengths[one] = most,
+            // Right in 16 bits only: with a length of 65,535, or 32,768 added twice.
+            4 if one != two => {
+                lengths[two] += lengths[one] + 1;
+                lengths[one] = most;
+            }
+            5 if one != two => [one, two].iter().for_each(|&at| lengths[at] += 32_768),
+            // Right only without the first or the last one.
+            _ => {
+                let left_out = *random.pick(&[0, p - 1]);
+                if one != left_out {
+                    lengths[one] += lengths[left_out];
+                    lengths[left_out] = random.between(1, 5);
+                }
+            }
+        }
+    }
+}
+
+/// A place of a symbol: first, last or any of a production that is the first, the
+/// last or any, as far as `l` goes. What is behind the sum counts as a production.
+fn symbol_place(random: &mut Random, lengths: &[usize], l: usize) -> usize {
+    let mut ends = vec![0];
+    for length in lengths.iter().chain([&l]) {
+        let from = ends[ends.len() - 1];
+        ends.push(l.min(from + length));
+    }
+    let spans: Vec<&[usize]> = ends.windows(2).filter(|span| span[0] < span[1]).collect();
+    let span = spans[end_or_any(random, spans.len())];
+    span[0] + end_or_any(random, span[1] - span[0])
+}
+
+/// A card with lengths that do not add up, with a bad symbol or with both, and
+/// with nothing that is refused before; small ones, and large ones up to the limits.
+fn wrong_right_sides(random: &mut Random) -> Vec<u16> {
+    let limits = [MAX_TERMINALS, MAX_NONTERMINALS, MAX_PRODUCTIONS, MAX_SYMBOLS];
+    let [t, n, p, l] = match random.below(4) {
+        0 => limits,
+        1 => limits.map(|limit| random.between(1, limit)),
+        _ => [5, 5, 5, 12].map(|most| random.between(1, most)),
+    };
+    let mut lengths = lengths(random, p, l);
+    // The lowest and the highest symbol that are good are often there.
+    let mut symbols: Vec<usize> = (0..l).map(|_| 1 + end_or_any(random, t + n - 1)).collect();
+    let faults = random.below(3);
+    if faults != 0 {
+        wrong_lengths(random, &mut lengths, l);
+    }
+    if faults != 1 {
+        let at = symbol_place(random, &lengths, l);
+        symbols[at] = *random.pick(&[0, t + n, t + n + 1, 65_535]);
+    }
+    let lefts = (0..p).map(|_| t + random.below(n)).collect();
+    [vec![t, n, p, l], lefts, lengths, symbols].concat().iter().map(|&n| n as u16).collect()
+}
+
 /// A card whose kind is one of many.
 pub fn card(random: &mut Random) -> Vec<u16> {
     if random.chance(1) {
         let length = random.below(16);
         return (0..length).map(|_| random.below(5) as u16).collect();
+    }
+    if random.chance(2) {
+        return wrong_right_sides(random);
     }
     let kind = random.below(1_000);
     let mut card = match kind {

@@ -3,7 +3,7 @@
 //! reference, and the answer against the membership tests.
 
 use reference::answer::{reference, short_area, Answer, TABLE_LENGTH, WORK2_LENGTH, WORK_LENGTH};
-use reference::card::parse;
+use reference::card::{bad_symbol, parse};
 use reference::derivation::{is_rightmost, sentence, Shortest};
 use reference::earley::recognise;
 use reference::grammar::Grammar;
@@ -12,6 +12,7 @@ use reference::random::Random;
 use reference::spans::{Derivations, Spans};
 
 use crate::abi::{Generator, Parser};
+use crate::guarded::Guarded;
 
 /// Places behind the areas lent, which nobody may touch.
 const FENCE: usize = 24;
@@ -70,8 +71,15 @@ impl<T: Copy + PartialEq + Default> Area<T> {
     }
 }
 
-/// The generator's three areas.
+/// Bytes of room for a card.
+const CARD: usize = 65_536;
+
+/// The generator's card, directly before a page that nobody may touch, and its three
+/// areas.
 pub struct Areas {
+    card: Guarded,
+    /// After the call the card, and the bytes before it, are as they were before.
+    card_kept: bool,
     table: Area<u16>,
     work: Area<u64>,
     work2: Area<u32>,
@@ -80,6 +88,8 @@ pub struct Areas {
 impl Areas {
     pub fn new(random: &mut Random) -> Areas {
         Areas {
+            card: Guarded::new(CARD),
+            card_kept: true,
             table: Area::new(random, TABLE_LENGTH, |n| n as u16),
             work: Area::new(random, WORK_LENGTH, |n| n),
             work2: Area::new(random, WORK2_LENGTH, |n| n as u32),
@@ -97,11 +107,20 @@ impl Areas {
         self.table.lend(random, short[0]);
         self.work.lend(random, short[1]);
         self.work2.lend(random, short[2]);
-        generator(numbers, self.table.area(), self.work.area(), self.work2.area())
+        assert!(std::mem::size_of_val(numbers) <= CARD, "a card of {} numbers", numbers.len());
+        let placed = self.card.place(numbers);
+        // SAFETY: so many numbers were placed there.
+        let card = unsafe { std::slice::from_raw_parts(placed, numbers.len()) };
+        let out = generator(card, self.table.area(), self.work.area(), self.work2.area());
+        self.card_kept = self.card.take() == Some(numbers);
+        out
     }
 
     /// Fails where answer or areas differ from what is expected.
     pub fn compare(&self, expected: &Answer, out: [u64; 5]) -> Result<(), String> {
+        if !self.card_kept {
+            return Err("the card was written".into());
+        }
         if out != expected.out() {
             return Err(format!("answer {out:?}, expected {:?}", expected.out()));
         }
@@ -159,6 +178,9 @@ pub struct Counts {
     pub cards: u64,
     /// Cards by answer, 0 for a table.
     pub answers: [u64; 14],
+    /// Cards refused for their right sides: 8 with good symbols, 9, and 8 with a bad
+    /// symbol.
+    pub right_sides: [u64; 3],
     /// Answers found by the definition, and by both ways of the reference.
     pub by_definition: u64,
     pub both_ways: u64,
@@ -170,6 +192,14 @@ pub struct Counts {
     pub wrong_before: u64,
     pub ran_out: u64,
     pub refused: u64,
+}
+
+impl Counts {
+    /// Of one of the three kinds of wrong right sides there was one card in 400, or
+    /// fewer.
+    pub fn few_right_sides(&self) -> bool {
+        self.right_sides.iter().any(|&cards| cards <= self.cards / 400)
+    }
 }
 
 /// Steps that no input of the tests needs.
@@ -218,7 +248,7 @@ impl Checker {
 
         self.counts.cards += 1;
         let both = self.counts.cards.is_multiple_of(self.both);
-        let Areas { table, work, work2 } = &self.areas;
+        let Areas { table, work, work2, .. } = &self.areas;
         let expected = match short_area(table.length, work.length, work2.length) {
             Some(refused) => refused,
             None => {
@@ -229,6 +259,12 @@ impl Checker {
             }
         };
         self.counts.answers[expected.out()[0] as usize] += 1;
+        match expected {
+            Answer::Refused(8, _) if bad_symbol(numbers) => self.counts.right_sides[2] += 1,
+            Answer::Refused(8, _) => self.counts.right_sides[0] += 1,
+            Answer::Refused(9, _) => self.counts.right_sides[1] += 1,
+            _ => {}
+        }
         if self.compare {
             self.areas.compare(&expected, out)?;
         }

@@ -3,6 +3,7 @@
 //!
 //!     generator-tests random            compares the linked archives with the reference
 //!     generator-tests self-check        requires that wrong generators and parsers are found
+//!     generator-tests reads-behind      dies: its generator looks at a symbol behind L
 //!     generator-tests sums              compares joins of completed families with the archive
 //!     generator-tests measure FILE..    prints sizes and times of stored cards
 //!     generator-tests climb WHAT FILE.. looks for cards with more WHAT: time, reads,
@@ -13,14 +14,19 @@
 mod abi;
 mod cards;
 mod check;
+#[rustfmt::skip]
+#[path = "../../reader/src/guarded.rs"]
+mod guarded;
 mod lookaheads;
 mod measure;
+mod pass;
 mod relations;
 mod sums;
 mod walks;
 mod wrong;
 
-use std::process::ExitCode;
+use std::os::unix::process::ExitStatusExt;
+use std::process::{Command, ExitCode};
 use std::time::Instant;
 
 use check::{Checker, Counts};
@@ -43,6 +49,8 @@ fn report(counts: &Counts) {
         let name = if answer == 0 { "table".into() } else { format!("refused {answer}") };
         println!("{name:>12} {count:>8}");
     }
+    let [lengths, symbols, both] = counts.right_sides;
+    println!("right sides: only 8 {lengths}, only 9 {symbols}, both {both}");
     println!("tables with 64 terminals {}, with over 100 states {}", counts.wide, counts.large);
     println!("by the definition {}, by both ways {}", counts.by_definition, counts.both_ways);
     println!(
@@ -68,7 +76,11 @@ fn compare(seed: u64, cards: u64) -> bool {
     if !unseen.is_empty() {
         println!("FAILED: answers not seen: {unseen:?}");
     }
-    unseen.is_empty()
+    let few = checker.counts.few_right_sides();
+    if few {
+        println!("FAILED: only 8, only 9 or both for one card in 400, or fewer");
+    }
+    unseen.is_empty() && !few
 }
 
 /// The number of the first card at which a wrong generator or parser is found.
@@ -92,19 +104,46 @@ fn found(
     None
 }
 
+fn parser(t: &[u16], i: &[u8], s: &mut [u16], l: &mut [u16], limit: u32) -> [u64; 7] {
+    reference::parser::parse(t, i, s, l, limit).out()
+}
+
+fn generator(c: &[u16], t: &mut [u16], w: &mut [u64], v: &mut [u32]) -> [u64; 5] {
+    use reference::answer::{answer, generate, Method};
+    generate(c, t, w, v, |card| answer(card, Method::Spreading).expect("an answer"))
+}
+
+/// With a generator that is right but looks at a symbol behind L where the lengths
+/// are wrong: the process must not live to the end of it.
+fn reads_behind(seed: u64, cards: u64) -> bool {
+    let reads = |c: &[u16], t: &mut [u16], w: &mut [u64], v: &mut [u32]| {
+        let out = generator(c, t, w, v);
+        if out[0] == 8 {
+            // SAFETY: none; it is what the page behind the card is to stop.
+            unsafe { c.as_ptr().add(c.len()).read_volatile() };
+        }
+        out
+    };
+    found(seed, cards, true, &reads, &parser).is_none()
+}
+
+/// The signal for memory that may not be touched.
+const SIGSEGV: i32 = 11;
+
+/// Whether a process of its own is ended by that signal in `reads_behind`.
+fn reads_behind_dies() -> bool {
+    let program = std::env::current_exe().expect("this program");
+    let status = Command::new(program).arg("reads-behind").status().expect("a process");
+    status.signal() == Some(SIGSEGV)
+}
+
 fn self_check(seed: u64, cards: u64) -> bool {
-    fn parser(t: &[u16], i: &[u8], s: &mut [u16], l: &mut [u16], limit: u32) -> [u64; 7] {
-        reference::parser::parse(t, i, s, l, limit).out()
-    }
-    fn generator(c: &[u16], t: &mut [u16], w: &mut [u64], v: &mut [u32]) -> [u64; 5] {
-        use reference::answer::{answer, generate, Method};
-        generate(c, t, w, v, |card| answer(card, Method::Spreading).expect("an answer"))
-    }
     println!("seed {seed}, at most {cards} cards each");
     let (mut told, mut missed) = (0, 0);
     let mut tell = |name: &str, result: Option<(u64, String)>| {
         told += 1;
         match result {
+            Some((0, what)) => println!("found: {name} ({what})"),
             Some((card, what)) => println!("found at card {card:>6}: {name} ({what})"),
             None => {
                 println!("NOT FOUND: {name}");
@@ -112,10 +151,21 @@ fn self_check(seed: u64, cards: u64) -> bool {
             }
         }
     };
-    // The base of some wrong generators is right.
+    // The bases of some wrong generators are right.
     let base = wrong::by_relations("the short way without a fault", relations::Fault::None);
     if let Some((card, what)) = found(seed, cards / 10, true, &base.generator, &parser) {
         println!("FAILED: {} at card {card}: {what}", base.name);
+        return false;
+    }
+    if let Some(card) = pass::wrong_card(seed, cards / 10) {
+        println!("FAILED: one pass without a fault: {card:?}");
+        return false;
+    }
+    // Cards of a kind that are too few are told, and only they.
+    let few =
+        |right_sides| Counts { cards: 400, right_sides, ..Counts::default() }.few_right_sides();
+    if few([2, 2, 2]) || !few([1, 2, 2]) || !few([2, 1, 2]) || !few([2, 2, 1]) {
+        println!("FAILED: the count of right sides refused");
         return false;
     }
     for wrong in wrong::generators() {
@@ -127,6 +177,8 @@ fn self_check(seed: u64, cards: u64) -> bool {
     for (name, wrong) in wrong::parsers() {
         tell(name, found(seed, cards, true, &generator, &wrong));
     }
+    let died = reads_behind_dies().then(|| (0, "ended by a signal".to_string()));
+    tell("a symbol behind L looked at", died);
     println!("{told} wrong generators and parsers, {missed} not found");
     missed == 0
 }
@@ -139,6 +191,7 @@ fn main() -> ExitCode {
     let good = match arguments.iter().map(String::as_str).collect::<Vec<_>>()[..] {
         ["random"] => compare(seed, cards),
         ["self-check"] => self_check(seed, cards),
+        ["reads-behind"] => reads_behind(seed, cards),
         ["sums"] => sums::sums(seed, setting("CARDS", 10_000)),
         ["measure", _, ..] => measure::measure_files(&arguments[1..]),
         ["climb", what, _, ..] => {
@@ -146,7 +199,7 @@ fn main() -> ExitCode {
             measure::climb(&mut random, setting("SEARCH_SECONDS", 60), what, &arguments[2..])
         }
         _ => {
-            println!("random, self-check, sums, measure FILE.. or climb WHAT FILE..");
+            println!("random, self-check, reads-behind, sums, measure FILE.. or climb WHAT FILE..");
             false
         }
     };

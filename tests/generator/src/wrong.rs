@@ -11,6 +11,7 @@ use reference::lr0;
 
 use crate::abi::{Generator, Parser};
 use crate::lookaheads::*;
+use crate::pass;
 use crate::relations::{self, Fault};
 
 /// A wrong generator with its name.
@@ -67,6 +68,19 @@ fn by_areas(
         let answer = short_area(t.len(), w.len(), v.len()).unwrap_or_else(|| right(card));
         left(&answer, t, w, v);
         answer.out()
+    };
+    Wrong { name, generator: Box::new(generator) }
+}
+
+/// Right, but the last number of the card is another afterwards.
+fn card_written(name: &'static str) -> Wrong {
+    let generator = |card: &[u16], t: &mut [u16], w: &mut [u64], v: &mut [u32]| {
+        let out = generate(card, t, w, v, right);
+        if let Some(last) = card.last() {
+            // SAFETY: none but that the card stands in memory that can be written.
+            unsafe { std::ptr::from_ref(last).cast_mut().write_volatile(!*last) };
+        }
+        out
     };
     Wrong { name, generator: Box::new(generator) }
 }
@@ -172,7 +186,7 @@ fn lookaheads(name: &'static str, change: fn(&Grammar, usize, u64) -> u64) -> Wr
 }
 
 /// The card's checks with another order or another test.
-fn checks(name: &'static str, check: fn(&[u16], u64) -> u64) -> Wrong {
+fn checks(name: &'static str, check: impl Fn(&[u16], u64) -> u64 + 'static) -> Wrong {
     by_card(name, move |numbers| {
         let answer = right(numbers);
         let number = answer.out()[0];
@@ -180,6 +194,19 @@ fn checks(name: &'static str, check: fn(&[u16], u64) -> u64) -> Wrong {
             changed if changed == number => answer,
             changed => Answer::Refused(changed, vec![]),
         }
+    })
+}
+
+/// Refusals 8 and 9 by one pass with a fault. A card taken that is to be refused
+/// gets the answer 10.
+fn by_pass(name: &'static str, fault: pass::Fault) -> Wrong {
+    checks(name, move |numbers, number| match number {
+        4..=7 => number,
+        _ => match pass::refusal(numbers, fault) {
+            0 if number == 8 || number == 9 => 10,
+            0 => number,
+            refusal => refusal,
+        },
     })
 }
 
@@ -298,31 +325,22 @@ pub fn generators() -> Vec<Wrong> {
             }
             finish(grammar, &found)
         }),
+        card_written("the card written"),
         // Checks.
-        checks("lengths added in 16 bits", |numbers, number| {
-            if number != 8 {
-                return number;
-            }
-            let [_, _, p, l] = sizes(numbers);
-            let sum = numbers[4 + p..4 + 2 * p].iter().fold(0u16, |sum, &n| sum.wrapping_add(n));
-            if sum as usize == l {
-                9
-            } else {
-                8
-            }
-        }),
-        checks("9 before 8", |numbers, number| {
-            if number != 8 {
-                return number;
-            }
-            let [t, n, p, _] = sizes(numbers);
-            let bad = |&s: &u16| s == 0 || s as usize >= t + n;
-            if numbers[4 + 2 * p..].iter().any(bad) {
-                9
-            } else {
-                8
-            }
-        }),
+        by_pass("lengths added in 16 bits", pass::Fault::SumWraps),
+        by_pass("lengths added up to L only", pass::Fault::SumStops),
+        by_pass("lengths behind the right sum not added", pass::Fault::EndsEarly),
+        by_pass("lengths that add up to less taken", pass::Fault::ShortSum),
+        by_pass("9 before 8", pass::Fault::SymbolsFirst),
+        by_pass("9 before 8 behind the sum", pass::Fault::RestFirst),
+        by_pass("9: forgotten at the next production", pass::Fault::Forgotten),
+        by_pass("8 and 9 without the last production", pass::Fault::NoLast),
+        by_pass("9 without the last production", pass::Fault::NoLastSymbols),
+        by_pass("9 without the first symbol of each production", pass::Fault::NoFirstSymbol),
+        by_pass("9 without the last symbol of each production", pass::Fault::NoLastSymbol),
+        by_pass("9 without the 512th symbol", pass::Fault::NoSymbol512),
+        by_pass("symbol 0 taken", pass::Fault::Zero),
+        by_pass("symbol T + N taken", pass::Fault::PastHighest),
         checks("8 before 7", |numbers, number| {
             if number != 7 {
                 return number;

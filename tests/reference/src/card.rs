@@ -67,7 +67,7 @@ pub fn parse(numbers: &[u16]) -> Result<Card, u64> {
     if lengths.iter().map(|&length| length as usize).sum::<usize>() != l {
         return Err(8);
     }
-    if symbols.iter().any(|&symbol| symbol == 0 || symbol as usize >= t + n) {
+    if bad_symbol(numbers) {
         return Err(9);
     }
     let mut productions = Vec::new();
@@ -78,6 +78,14 @@ pub fn parse(numbers: &[u16]) -> Result<Card, u64> {
         rest = behind;
     }
     Ok(Card { terminals: t, nonterminals: n, productions })
+}
+
+/// Whether a symbol of the right sides is one that 9 refuses, in a card that
+/// passed refusals 4 to 7.
+pub fn bad_symbol(numbers: &[u16]) -> bool {
+    let size = |i: usize| numbers[i] as usize;
+    let (all, symbols) = (size(0) + size(1), &numbers[4 + 2 * size(2)..]);
+    symbols.iter().any(|&symbol| symbol == 0 || symbol as usize >= all)
 }
 
 #[cfg(test)]
