@@ -53,7 +53,7 @@ abbrev pub Answer : List ℕ → (ℕ → ℕ → ℕ → Type 0) → ℕ → Li
 Answer c A n t t′ Free = Rows c A n t t′
 Answer c A n t t′ (At q m v u) = Conflict A n (card.terminals c) q m v u
 
--- the length and the places from 32,004 on never change
+-- the length and the places from `tableSize` on never change
 pub record Searched (c : List ℕ) (A : ℕ → ℕ → ℕ → Type 0) (n : ℕ) (t t′ : List ℕ) (r : Clash) : Type 0 where
   pub answer : Answer c A n t t′ r
   pub long : length t′ ≡ length t
