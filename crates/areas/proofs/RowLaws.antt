@@ -44,6 +44,9 @@ row-most c f q n h =
 pub row-fits : (c : List ℕ) → WellFormed c → (q : ℕ) → q < 256 → rowOf c q + (terminals c + nonterminals c) ≤ tableSize
 row-fits c f q h = let e = row-mono c q 256 h in let m = row-most c f 256 256 (omega arith) in omega arith
 
+pub row-small : (c : List ℕ) → WellFormed c → (q : ℕ) → q ≤ 256 → rowOf c q ≤ tableSize
+row-small c f q h = let m = row-most c f q 256 h in omega arith
+
 -- with as many entering symbols as rows in front of them
 pub rows-fit : (c : List ℕ) → WellFormed c → (n : ℕ) → n ≤ 256 → rowOf c n + n ≤ tableSize
 rows-fit c f n h = let m = row-most c f n 256 h in omega arith

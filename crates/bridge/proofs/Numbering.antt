@@ -16,6 +16,7 @@ use Rattle.lr.proofs.Runs
 use Rattle.lr.proofs.ItemLaws.{AllProductive, all-productive, snoc-last, not-snoc, after-positive}
 use Rattle.lr.proofs.Automaton.{Automaton, walk-snoc}
 use Rattle.lr.proofs.Paths.{Has, symbol-below, state-automaton}
+use Rattle.lr.specs.Cells.{Entered}
 use Rattle.lr.proofs.Entering.{move-enters, one-entered}
 use Rattle.lr.proofs.RelationLaws.{went}
 use Rattle.transitions.specs.Next.{Numbered}
@@ -48,9 +49,10 @@ module _ {c : List ℕ} {n : ℕ} {next : ℕ → ℕ → ℕ} (s : Stated c n n
       go (no nz) = automaton .next-below (s .inside p x nz)
 
   entered-by-one : (p x q y : ℕ) → next p x ≢ 0 → next p x ≡ next q y → x ≡ y
-  entered-by-one p x q y nz e =
-      let enters = λ (p x : ℕ) (z : next p x ≢ 0). move-enters (grammarOf c) (s .states) p x (s .inside p x z) z in
-      one-entered (grammarOf c) (s .states) (enters p x nz) (rw (← e) at (enters q y (rw (← e) nz)))
+  entered-by-one p x q y nz e = one-entered (grammarOf c) (s .states) (enters p x nz) (rw (← e) at (enters q y (rw (← e) nz)))
+    where
+      enters : (p x : ℕ) → next p x ≢ 0 → Entered (grammarOf c) next (next p x) x
+      enters p x z = move-enters (grammarOf c) (s .states) p x (s .inside p x z) z
 
   pub numbered : Numbered c n next
   numbered = record {

@@ -15,7 +15,7 @@ use Rattle.sets.proofs.HasLaws.{lt-or-ge, below-suc}
 use Rattle.grammar.specs.Card.{terminals, nonterminals, productions}
 use Rattle.grammar.proofs.CardLaws.{well-formed}
 use Rattle.areas.specs.Areas.{tableSize, rowOf}
-use Rattle.areas.proofs.RowLaws.{row-next, row-mono, row-most, rows-fit}
+use Rattle.areas.proofs.RowLaws.{row-next, row-mono, row-most, row-small, rows-fit}
 use Rattle.transitions.specs.Places.{shiftsAt}
 use Rattle.transitions.specs.Area.{enteringOf}
 use Rattle.transitions.specs.Next.{nextOf, Numbered}
@@ -46,7 +46,7 @@ row-below c p q x h l = let m = row-mono c p q h in omega arith
 module _ (c w : List ℕ) (k : ℕ) (o : Ordered c w k) where
   -- 256 rows fit
   pub row-fits : (q : ℕ) → q ≤ 256 → rowOf c q ≤ tableSize
-  row-fits q h = let m = row-most c (well-formed c (o .formed)) q 256 h in omega arith
+  row-fits q h = row-small c (well-formed c (o .formed)) q h
 
   -- and the place of any word of a row
   pub row-room : (q : ℕ) → q < 256 → rowOf c q + 64 ≤ tableSize
