@@ -134,7 +134,7 @@ pub fn automaton(grammar: &Grammar, bound: usize) -> Result<Automaton, Missing> 
 
 /// The last symbol of the paths to each group of sets, 0 for the group of the first
 /// set, which no path but the empty one leads to.
-fn last_symbols(all: &Collection, group_of: &[usize], groups: usize) -> Vec<usize> {
+pub fn last_symbols(all: &Collection, group_of: &[usize], groups: usize) -> Vec<usize> {
     let mut last = vec![None; groups];
     last[group_of[0]] = Some(0);
     for row in &all.next {
