@@ -20,6 +20,11 @@ static const char *const refusals[] = {
     "input too long",  "no such terminal",       "no stack area",
 };
 
+static const char *refusal(uint64_t number)
+{
+    return number == SIDUMZA_BAD_ENTERED ? "bad entering symbol in the table" : refusals[number - SIDUMZA_TABLE_SHORT];
+}
+
 static void fail(const char *form, ...)
 {
     va_list a;
@@ -102,8 +107,8 @@ static void show(const uint64_t *out, const uint16_t *list)
         size_t many = sidumza_terminals(out[SIDUMZA_EXPECTED], terminals);
         for (size_t i = 0; i < many; i++)
             printf(" %u", terminals[i]);
-    } else if (n < SIDUMZA_NO_ACTION) {
-        printf("refused %llu: %s", (unsigned long long)n, refusals[n - SIDUMZA_TABLE_SHORT]);
+    } else if (n < SIDUMZA_NO_ACTION || n == SIDUMZA_BAD_ENTERED) {
+        printf("refused %llu: %s", (unsigned long long)n, refusal(n));
     } else {
         printf("stopped %llu: steps %llu, stack %llu, listed %llu", (unsigned long long)n, steps,
                (unsigned long long)out[SIDUMZA_DEPTH], (unsigned long long)out[SIDUMZA_LISTED]);
@@ -126,8 +131,8 @@ int main(int argc, char **argv)
     uint16_t *stack = room(NULL, limits[1] * sizeof *stack), *list = room(NULL, limits[2] * sizeof *list);
     uint64_t out[SIDUMZA_OUT];
     sidumza_parse(table, table_len, NULL, 0, stack, limits[1], list, limits[2], 0, out);
-    if (out[0] >= SIDUMZA_TABLE_SHORT && out[0] <= SIDUMZA_BAD_CELL)
-        fail("%s: refused %d: %s", argv[1], (int)out[0], refusals[out[0] - SIDUMZA_TABLE_SHORT]);
+    if ((out[0] >= SIDUMZA_TABLE_SHORT && out[0] <= SIDUMZA_BAD_CELL) || out[0] == SIDUMZA_BAD_ENTERED)
+        fail("%s: refused %d: %s", argv[1], (int)out[0], refusal(out[0]));
 
     char *line = NULL;
     uint8_t *input = NULL;
