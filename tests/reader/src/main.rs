@@ -291,8 +291,9 @@ fn main() {
         }
     }
     for (what, many, least) in run.entered.all() {
-        println!("{what}: {many}");
-        missing |= many < least;
+        let few = many < least;
+        println!("{what}: {many}{}", if few { format!(", under {least} times") } else { String::new() });
+        missing |= few;
     }
     std::process::exit(missing as i32);
 }
