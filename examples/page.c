@@ -3,7 +3,8 @@
  *   page TABLE [STEP_LIMIT [STACK [LIST]]]
  *
  * TABLE is a table as maketable prints it. A line is terminals in decimal; an empty line is the empty
- * input. Each line gets one line of answer.
+ * input. Each line gets one line of answer. That of a wrong line names the symbols that the terminals before
+ * the place were read as: those under which the states on the stack were entered.
  */
 #include <ctype.h>
 #include <errno.h>
@@ -93,7 +94,8 @@ static size_t load(const char *path, uint16_t *table, size_t table_len)
     return n;
 }
 
-static void show(const uint64_t *out, const uint16_t *list)
+static void show(const uint64_t *out, const uint16_t *table, size_t table_len, const uint16_t *stack,
+                 const uint16_t *list)
 {
     uint64_t n = out[SIDUMZA_NUMBER];
     unsigned long long steps = out[SIDUMZA_STEPS];
@@ -102,7 +104,10 @@ static void show(const uint64_t *out, const uint16_t *list)
         for (uint64_t i = 0; i < out[SIDUMZA_LISTED]; i++)
             printf(" %u", list[i]);
     } else if (n == SIDUMZA_NO_ACTION) {
-        printf("wrong at %llu: steps %llu, expected", (unsigned long long)out[SIDUMZA_POSITION], steps);
+        printf("wrong at %llu: steps %llu", (unsigned long long)out[SIDUMZA_POSITION], steps);
+        for (uint64_t i = 1; i < out[SIDUMZA_DEPTH]; i++)
+            printf("%s %u", i == 1 ? ", after" : "", sidumza_entered(table, table_len, stack[i]));
+        printf(", expected");
         uint8_t terminals[64];
         size_t many = sidumza_terminals(out[SIDUMZA_EXPECTED], terminals);
         for (size_t i = 0; i < many; i++)
@@ -148,7 +153,7 @@ int main(int argc, char **argv)
         if (s != line + got)
             fail("line %lu: not a line of terminals", k);
         sidumza_parse(table, table_len, input, n, stack, limits[1], list, limits[2], limits[0], out);
-        show(out, list);
+        show(out, table, table_len, stack, list);
     }
     if (ferror(stdin) || fflush(stdout) != 0)
         fail("cannot read or write");

@@ -3,8 +3,8 @@
 
 enum { LARGEST = 4 + 2 * 128 + 256 + 256 * 124 };
 
-/* Every cell a shift, a next state or, in column 0, the acceptance; every cell 0; or now 0, now a reduction, now a state,
-   as branches are hardest to guess. No short input takes more than two steps. */
+/* Every cell a shift, a next state or, in column 0, the acceptance; every cell 0; or now 0, now a reduction, now a
+   state, as branches are hardest to guess. No short input takes more than two steps. */
 enum kind { FULL, BLANK, MIXED };
 
 static inline void largest_table(uint16_t *table, enum kind kind)
