@@ -1,7 +1,7 @@
 // A second reader, as one loop over the areas, with a switch for a deliberate fault. Without a fault
 // it is right; each fault must be found by the test.
 
-pub const FAULTS: [&str; 71] = [
+pub const FAULTS: [&str; 72] = [
     "none",
     "21: table of 4 numbers refused",
     "21 before 22",
@@ -48,6 +48,7 @@ pub const FAULTS: [&str; 71] = [
     "entering symbols behind the cells",
     "entering symbols before the lengths",
     "cells where entering symbols are",
+    "tables without entering symbols known by their length",
     "25: 65536 terminals pass",
     "26: terminal 0 passes",
     "26: terminal T passes",
@@ -82,18 +83,23 @@ struct Table<'a> {
     lengths: usize,
     entered: usize,
     cells: usize,
+    // Taken for a table without entering symbols.
+    old: bool,
 }
 
 impl<'a> Table<'a> {
     fn new(fault: &'static str, numbers: &'a [u16]) -> Table<'a> {
         let [q, m, n, p] = [0, 1, 2, 3].map(|i| numbers[i] as usize);
+        let old = fault == "tables without entering symbols known by their length"
+            && numbers.len() == 4 + 2 * p + q * (m + n);
         let (lengths, entered, cells) = match fault {
             "entering symbols behind the cells" => (4 + p, 4 + 2 * p + q * (m + n), 4 + 2 * p),
             "entering symbols before the lengths" => (4 + p + q, 4 + p, 4 + 2 * p + q),
             "cells where entering symbols are" => (4 + p, 4 + 2 * p, 4 + 2 * p),
+            _ if old => (4 + p, 4 + 2 * p, 4 + 2 * p),
             _ => (4 + p, 4 + 2 * p, 4 + 2 * p + q),
         };
-        Table { fault, numbers, lengths, entered, cells }
+        Table { fault, numbers, lengths, entered, cells, old }
     }
 
     fn is(&self, name: &str) -> bool {
@@ -129,8 +135,8 @@ impl<'a> Table<'a> {
     fn bad_sizes(&self) -> u64 {
         let [q, m, w, p] = self.sizes();
         let (n, len) = (w - m, self.numbers.len());
-        let counted = q * !self.is("21: entering symbols not counted") as usize;
-        let size = 4 + 2 * p + counted + q * w;
+        let counted = !self.old && !self.is("21: entering symbols not counted");
+        let size = 4 + 2 * p + q * counted as usize + q * w;
         let short = len < size && !(self.is("21: one number too few passes") && len + 1 == size);
         if self.is("21 before 22") && len < size || self.is("22: 0 states pass as 21") && q == 0 {
             return 21;
@@ -224,7 +230,7 @@ impl<'a> Table<'a> {
                 }
             };
         }
-        bad && !self.is("44: not checked")
+        bad && !self.old && !self.is("44: not checked")
     }
 
     // The refusals behind 21 and 22, in order.
