@@ -16,3 +16,8 @@ between lo hi x = leb lo x && leb x hi
 abbrev pub unless : Bool → ℕ → ℕ → ℕ
 unless true n r = r
 unless false n r = n
+
+-- the refusal m, and where it is none (0) the refusal n
+abbrev pub orElse : ℕ → ℕ → ℕ
+orElse zero n = n
+orElse (suc m) n = suc m
