@@ -88,11 +88,22 @@ module _ {t : List ℕ} {z : Shape} (w : Whole t z) where
     abbrev named : ℕ → Bool
     named x = namesOk t x (cellOf t q x)
 
-    pub next-part : (x n : ℕ) {a b : Bool} → a ≡ allBelow x named → b ≡ allBelow n (λ i. namesOk t (x + i) (getD t (z .cells + q * z .width + (x + i)) 0)) → (a && b) ≡ allBelow (x + n) named
+    -- n columns from x on, as their cells are read
+    abbrev read : ℕ → ℕ → Bool
+    read x n = allBelow n (λ i. namesOk t (x + i) (getD t (z .cells + q * z .width + (x + i)) 0))
+
+    pub next-part : (x n : ℕ) {b : Bool} → allBelow x named ≡ true → b ≡ read x n → b ≡ allBelow (x + n) named
     next-part x n {b = b} ea eb =
         let e : b ≡ allBelow n (λ i. named (x + i)) = eb ∙ all-ext _ _ n (λ i h. ap (namesOk t (x + i)) (at w q (x + i))) in
-        rw (ea, e, all-split named x n)
+        rw (all-split named x n, ea) e
 
-    pub last-part : (x : ℕ) {a b : Bool} → x ≤ z .width → a ≡ allBelow x named → b ≡ allBelow (z .width - x) (λ i. namesOk t (x + i) (getD t (z .cells + q * z .width + (x + i)) 0)) → (a && b) ≡ rowNamesOk t q
+    pub last-part : (x : ℕ) {b : Bool} → x ≤ z .width → allBelow x named ≡ true → b ≡ read x (z .width - x) → b ≡ rowNamesOk t q
     unfolding rowNamesOk
     last-part x h ea eb = let e : x + (z .width - x) ≡ width t = omega (arith, w .shaped .width-is) in rw e at (next-part x (z .width - x) ea eb)
+
+    pub part-fails : (x n : ℕ) {b : Bool} → x + n ≤ z .width → allBelow x named ≡ true → b ≡ read x n → b ≡ false → false ≡ rowNamesOk t q
+    unfolding rowNamesOk
+    part-fails x n h ea eb f =
+        let e : width t ≡ (x + n) + (z .width - (x + n)) = omega (arith, w .shaped .width-is) in
+        let k : allBelow (x + n) named ≡ false = sym (next-part x n ea eb) ∙ f in
+        rw (e, all-split named (x + n) (z .width - (x + n)), k)

@@ -229,13 +229,14 @@ fn row_names_ok(t: &[u16], z: Shape, q: usize) -> bool
 {
     let from = z.cells + q * z.width;
     let n = z.width;
-    let mut ok = true;
     let mut x: usize = 0;
     while x + 8 <= n {
-        ok = both(ok, part_ok(t, z, from, x));
+        if !part_ok(t, z, from, x) {
+            return false;
+        }
         x += 8;
     }
-    both(ok, names_ok(t, z, from, x, n - x))
+    names_ok(t, z, from, x, n - x)
 }
 
 fn rows_names_ok(t: &[u16], z: Shape) -> bool
@@ -243,13 +244,14 @@ fn rows_names_ok(t: &[u16], z: Shape) -> bool
     ensures { λ r. ⌜ r ≡ allBelow (states (now (t .entry))) (rowNamesOk (now (t .entry))) ⌝ }
 {
     let n = z.states;
-    let mut ok = true;
     let mut q: usize = 0;
     while q < n {
-        ok = both(ok, row_names_ok(t, z, q));
+        if !row_names_ok(t, z, q) {
+            return false;
+        }
         q += 1;
     }
-    ok
+    true
 }
 
 fn entries_ok(t: &[u16], z: Shape) -> bool
