@@ -157,11 +157,11 @@ fn entries_below(t: &[u16], z: Shape) -> bool
     requires { ⌜ Whole (now t) z ⌝ }
     ensures { λ r. ⌜ r ≡ allBelow (states (now (t .entry))) (entryOk (now (t .entry))) ⌝ }
 {
-    let n = z.states;
+    let entries = z.states;
     let w = z.width as u16;
     let mut ok = true;
     let mut q: usize = 0;
-    while q < n {
+    while q < entries {
         ok = both(ok, tables::entered(t, z, q) < w);
         q += 1;
     }
@@ -243,9 +243,9 @@ fn rows_names_ok(t: &[u16], z: Shape) -> bool
     requires { ⌜ Whole (now t) z ⌝ }
     ensures { λ r. ⌜ r ≡ allBelow (states (now (t .entry))) (rowNamesOk (now (t .entry))) ⌝ }
 {
-    let n = z.states;
+    let rows = z.states;
     let mut q: usize = 0;
-    while q < n {
+    while q < rows {
         if !row_names_ok(t, z, q) {
             return false;
         }
@@ -283,13 +283,16 @@ fn check_parts(t: &[u16], z: Shape) -> Verdict
     requires { ⌜ Whole (now t) z ⌝ }
     ensures { λ r. ⌜ verdictNumber r ≡ tableRefusal (now (t .entry)) ⌝ }
 {
-    if !productions_ok(t, z) {
+    let productions = productions_ok(t, z);
+    let cells = cells_ok(t, z);
+    let entries = entries_ok(t, z);
+    if !productions {
         return Verdict::Refused(Refusal::ProductionWrong);
     }
-    if !cells_ok(t, z) {
+    if !cells {
         return Verdict::Refused(Refusal::CellWrong);
     }
-    if !entries_ok(t, z) {
+    if !entries {
         return Verdict::Refused(Refusal::EntryWrong);
     }
     Verdict::Passed

@@ -11,10 +11,10 @@ use Rattle.table_checks.proofs.entries_below.Statement.{statement}
 use Rattle.table_checks.proofs.entries_below.Tie as tie
 
 abbrev Inv-loop : tie.InvT-loop
-Inv-loop t z n w ok₀ q₀ ok q = (ok ≡ allBelow q (entryOk t)) × (q ≤ n)
+Inv-loop t z entries w ok₀ q₀ ok q = (ok ≡ allBelow q (entryOk t)) × (q ≤ entries)
 
 abbrev μ-loop : tie.MeasureT-loop
-μ-loop t z n w ok₀ q₀ ok q = n - q
+μ-loop t z entries w ok₀ q₀ ok q = entries - q
 
 cast-w : tie.Need-cast-w Inv-loop μ-loop
 cast-w c = omega (arith, width-most (c .before .before .pre))

@@ -11,10 +11,10 @@ use Rattle.table_checks.proofs.rows_names_ok.Statement.{statement}
 use Rattle.table_checks.proofs.rows_names_ok.Tie as tie
 
 abbrev Inv-loop : tie.InvT-loop
-Inv-loop t z n q₀ q = (allBelow q (rowNamesOk t) ≡ true) × (q ≤ n)
+Inv-loop t z rows q₀ q = (allBelow q (rowNamesOk t) ≡ true) × (q ≤ rows)
 
 abbrev μ-loop : tie.MeasureT-loop
-μ-loop t z n q₀ q = n - q
+μ-loop t z rows q₀ q = rows - q
 
 loop-holds : tie.Need-loop-holds Inv-loop μ-loop
 unfolding allBelow
