@@ -1,6 +1,6 @@
 -- What 44 tests, in words.
 use Prim.Native.Nat.{ℕ, _<_}
-use mathlib.Core.Path.{_≡_, refl}
+use mathlib.Core.Path.{_≡_, refl, sym, ap, _∙_}
 use mathlib.Core.Bool.{Bool, true, false, cond, _&&_}
 use mathlib.Core.List.{List}
 use lib.Dec.{ltb, eqb}
@@ -19,7 +19,9 @@ pub record Entries (t : List ℕ) : Type 0 where
 
 named-ok : (t : List ℕ) (x v : ℕ) → namesOk t x v ≡ true → 0 < v → v < states t → enteredOf t v ≡ x
 unfolding namesOk
-named-ok t x v e h k = eqb-true (enteredOf t v) x (rw (lt-ltb 0 v h, lt-ltb v (states t) k) at e)
+named-ok t x v e h k =
+    let b : (ltb 0 v && ltb v (states t)) ≡ true = and-true (lt-ltb 0 v h) (lt-ltb v (states t) k) in
+    eqb-true (enteredOf t v) x (ap (λ (b : Bool). cond b (eqb (enteredOf t v) x) true) (sym b) ∙ e)
 
 names-ok : (t : List ℕ) (x v : ℕ) → (0 < v → v < states t → enteredOf t v ≡ x) → namesOk t x v ≡ true
 unfolding namesOk
