@@ -14,7 +14,7 @@ use Rattle.sets.proofs.HasLaws.{lt-or-ge}
 use Rattle.sets.proofs.TestLaws.{all-split, all-ext, all-at, all-true}
 use Rattle.tables.specs.Layout.{states, productions, width, cellOf, enteredAt, enteredOf, sizeOf}
 use Rattle.tables.specs.declared.Shape.{Shape}
-use Rattle.machine.specs.Checks.{entryOk, namesOk, rowNamesOk}
+use Rattle.machine.specs.Checks.{entryOk, namesOk, rowNamesOk, entriesOk}
 use Rattle.machine.proofs.Checked.{sized}
 use Rattle.table_checks.specs.Rows.{unnamed, Whole}
 use Rattle.table_checks.proofs.RowLaws.{at}
@@ -41,6 +41,11 @@ module _ (t : List ℕ) (x v : ℕ) where
   pub name-some : unnamed (states t) v ≡ false → namesOk t x v ≡ eqb (enteredOf t v) x
   unfolding namesOk
   name-some e = rw (names t v false e)
+
+-- the three tests of 44
+pub entries-are : (t : List ℕ) {a b c : Bool} {e : ℕ} → a ≡ allBelow (states t) (entryOk t) → e ≡ enteredOf t 0 → c ≡ allBelow (states t) (rowNamesOk t) → b ≡ (eqb e 0 && c) → (a && b) ≡ entriesOk t
+unfolding entriesOk
+entries-are t ea ee ec eb = rw (eb, ea, ee, ec)
 
 or-right : (a b : Bool) → (a || b) ≡ false → b ≡ false
 or-right true b e = cc

@@ -1,5 +1,5 @@
-use Rattle.machine.specs.Checks.{entriesOk}
-use Rattle.table_checks.proofs.EntryLaws.{entered-fits, some-state}
+use mathlib.Core.Path.{_∙_}
+use Rattle.table_checks.proofs.EntryLaws.{entered-fits, some-state, entries-are}
 use borrow.Author.Needs.{needs}
 use Rattle.table_checks.proofs.entries_ok.Statement.{statement}
 use Rattle.table_checks.proofs.entries_ok.Tie as tie
@@ -8,8 +8,7 @@ entered-requires : tie.Need-entered-requires
 entered-requires c κs = (c .before .before .pre .shaped, entered-fits (c .before .before .pre) 0 (some-state (c .before .before .pre)))
 
 returns : tie.Need-returns
-unfolding entriesOk
-returns c = rw (c .both2 .ensures, c .before .both .ensures, c .before .before .before .before .entries-below .ensures, c .before .before .before .entered .ensures, c .before .before .rows-names-ok .ensures)
+returns c = c .both2 .ensures ∙ entries-are _ (c .before .before .before .before .entries-below .ensures) (c .before .before .before .entered .ensures) (c .before .before .rows-names-ok .ensures) (c .before .both .ensures)
 
 pub entries-ok-spec : {M : Type 1} → statement M
 entries-ok-spec = tie.close (tie.spec (λ c κs. search needs) entered-requires (λ c κs. search needs) (λ c κs. search needs) (λ c κs. search needs) returns)
