@@ -14,10 +14,11 @@ use Rattle.sets.proofs.HasLaws.{lt-or-ge}
 use Rattle.sets.proofs.TestLaws.{all-split, all-ext, all-at, all-true}
 use Rattle.tables.specs.Layout.{states, productions, width, cellOf, enteredAt, enteredOf, sizeOf}
 use Rattle.tables.specs.declared.Shape.{Shape}
+use Rattle.tables.proofs.Places.{terminals-le}
 use Rattle.machine.specs.Checks.{entryOk, namesOk, rowNamesOk, entriesOk}
 use Rattle.machine.proofs.Checked.{sized}
 use Rattle.table_checks.specs.Rows.{unnamed, Whole}
-use Rattle.table_checks.proofs.RowLaws.{at}
+use Rattle.table_checks.proofs.RowLaws.{at, row-fits}
 
 -- ---- one cell: it names a state or it does not
 
@@ -92,6 +93,10 @@ module _ {t : List ℕ} {z : Shape} (w : Whole t z) where
   module _ (q : ℕ) where
     abbrev named : ℕ → Bool
     named x = namesOk t x (cellOf t q x)
+
+    -- the columns of a row, those of the terminals first, lie within the table
+    pub columns-fit : q < states t → (z .terminals ≤ z .width) × (z .cells + q * z .width + z .width ≤ length t)
+    columns-fit h = (terminals-le (w .shaped), row-fits w q h)
 
     -- n columns from x on, as their cells are read
     abbrev read : ℕ → ℕ → Bool

@@ -6,8 +6,7 @@ use borrow.Author.Tests.{not-true, not-false}
 use Rattle.sets.specs.Tests.{allBelow}
 use Rattle.tables.specs.Layout.{cellOf}
 use Rattle.machine.specs.Checks.{namesOk}
-use Rattle.table_checks.proofs.RowLaws.{row-fits}
-use Rattle.table_checks.proofs.EntryLaws.{next-part, last-part, part-fails}
+use Rattle.table_checks.proofs.EntryLaws.{columns-fit, next-part, last-part, part-fails}
 use borrow.Author.Needs.{needs}
 use Rattle.table_checks.proofs.row_names_ok.Statement.{statement}
 use Rattle.table_checks.proofs.row_names_ok.Tie as tie
@@ -19,26 +18,26 @@ abbrev μ-loop : tie.MeasureT-loop
 μ-loop t z q from n x₀ x = n - x
 
 mul-from : tie.Need-mul-from Inv-loop μ-loop
-mul-from c = omega (arith, row-fits (c .before .before .pre .0) (c .before .before .args .q) (c .before .before .pre .1), c .before .before .good)
+mul-from c = omega (arith, columns-fit (c .before .before .pre .0) (c .before .before .args .q) (c .before .before .pre .1), c .before .before .good)
 
 add-from : tie.Need-add-from Inv-loop μ-loop
-add-from c = omega (arith, row-fits (c .before .before .before .pre .0) (c .before .before .before .args .q) (c .before .before .before .pre .1), c .before .before .before .good)
+add-from c = omega (arith, columns-fit (c .before .before .before .pre .0) (c .before .before .before .args .q) (c .before .before .before .pre .1), c .before .before .before .good)
 
 loop-holds : tie.Need-loop-holds Inv-loop μ-loop
 unfolding allBelow
 loop-holds c = (refl, zero-le)
 
 add-loop : tie.Need-add-loop Inv-loop μ-loop
-add-loop c = omega (arith, row-fits (c .before .before .before .before .pre .0) (c .before .before .before .before .args .q) (c .before .before .before .before .pre .1), c .before .before .before .before .good)
+add-loop c = omega (arith, columns-fit (c .before .before .before .before .pre .0) (c .before .before .before .before .args .q) (c .before .before .before .before .pre .1), c .before .before .before .before .good)
 
 part-ok-requires : tie.Need-part-ok-requires Inv-loop μ-loop
-part-ok-requires c κs = (c .before .before .before .before .before .pre .0, omega (arith, row-fits (c .before .before .before .before .before .pre .0) (c .before .before .before .before .before .args .q) (c .before .before .before .before .before .pre .1)))
+part-ok-requires c κs = (c .before .before .before .before .before .pre .0, omega (arith, columns-fit (c .before .before .before .before .before .pre .0) (c .before .before .before .before .before .args .q) (c .before .before .before .before .before .pre .1)))
 
 returns : tie.Need-returns Inv-loop μ-loop
 returns c = part-fails (c .before .before .before .before .before .before .before .pre .0) (c .before .before .before .before .before .before .before .args .q) (c .before .before .before .loop .x) 8 (c .before .before .loop-test .taken) (c .before .before .before .loop .inv .0) (c .before .part-ok .ensures) (not-true _ (c .if1 .taken))
 
 add-x : tie.Need-add-x Inv-loop μ-loop
-add-x c = omega (arith, row-fits (c .before .before .before .before .before .before .before .pre .0) (c .before .before .before .before .before .before .before .args .q) (c .before .before .before .before .before .before .before .pre .1), c .before .before .before .before .before .before .before .good)
+add-x c = omega (arith, columns-fit (c .before .before .before .before .before .before .before .pre .0) (c .before .before .before .before .before .before .before .args .q) (c .before .before .before .before .before .before .before .pre .1), c .before .before .before .before .before .before .before .good)
 
 loop-less : tie.Need-loop-less Inv-loop μ-loop
 loop-less c = omega arith
@@ -47,7 +46,7 @@ loop-again : tie.Need-loop-again Inv-loop μ-loop
 loop-again c = (sym (next-part (c .before .before .before .before .before .before .before .pre .0) (c .before .before .before .before .before .before .before .args .q) (c .before .before .before .loop .x) 8 (c .before .before .before .loop .inv .0) (c .before .part-ok .ensures)) ∙ not-false _ (c .if1 .left), c .before .before .loop-test .taken)
 
 names-ok-requires : tie.Need-names-ok-requires Inv-loop μ-loop
-names-ok-requires c κs = (c .before .before .before .before .before .pre .0, omega (arith, row-fits (c .before .before .before .before .before .pre .0) (c .before .before .before .before .before .args .q) (c .before .before .before .before .before .pre .1)))
+names-ok-requires c κs = (c .before .before .before .before .before .pre .0, omega (arith, columns-fit (c .before .before .before .before .before .pre .0) (c .before .before .before .before .before .args .q) (c .before .before .before .before .before .pre .1)))
 
 returns-2 : tie.Need-returns-2 Inv-loop μ-loop
 returns-2 c = last-part (c .before .before .before .before .before .before .pre .0) (c .before .before .before .before .before .before .args .q) (c .before .before .loop .x) (c .before .before .loop .inv .1) (c .before .before .loop .inv .0) (c .names-ok .ensures)
