@@ -6,8 +6,7 @@ ghost use mathlib.Core.List.{List};
 ghost use Prim.Native.Nat.{ℕ, _+_, _<_, _≤_};
 ghost use lib.ListN.{length, getD};
 ghost use lib.Dec.{ltb};
-ghost use Rattle.sets.specs.Tests.{allBelow, between as betweenOf};
-ghost use Rattle.sets.specs.Tests.{orElse};
+ghost use Rattle.sets.specs.Tests.{allBelow, between as betweenOf, orElse};
 ghost use Rattle.tables.specs.Layout.{states, terminals, productions, lengthAt};
 ghost use Rattle.tables.specs.Shape.{Shaped};
 ghost use Rattle.machine.specs.Checks.{sizesOk, productionOk, productionsOk, rowOk, cellsOk, entryOk, namesOk, rowNamesOk, entriesOk, inputOk};
@@ -211,7 +210,7 @@ fn names_ok(t: &[u16], z: Shape, from: usize, x: usize, n: usize) -> bool
     ok
 }
 
-// The same of 8 cells: most name no state, which one comparison of all tells.
+// The same of 8 cells: most name no state, which one comparison of all tells. A second caller would keep it from being inlined.
 fn part_ok(t: &[u16], z: Shape, from: usize, x: usize) -> bool
     requires { ⌜ (Whole (now t) z) × (from + (x + 8) ≤ length (now t)) ⌝ }
     ensures { λ r. ⌜ r ≡ allBelow 8 (λ i. namesOk (now (t .entry)) (x + i) (getD (now (t .entry)) (from + (x + i)) 0)) ⌝ }
