@@ -77,10 +77,10 @@ enum {
  *   (only a shift and an empty production's reduction push more than they pop).
  * - How many reductions an input takes is the grammar's: 34 tells that the list is too short. By JSON's table (examples/)
  *   an input of 9 terminals takes 10.
- * What a call costs: it checks the whole table first, each time: 0.2 microseconds for the 530 numbers of JSON's table,
- * 1 for 256 rows of few cells, 4 to 5 for the largest table, of 32260 numbers; then some 3 nanoseconds a step
- * (bench/reader/calls.c on an AMD EPYC). For an input of 9 terminals and 20 steps by JSON's table the check is three
- * quarters of the time.
+ * What a call costs: it checks the whole table first, each time: 0.35 microseconds for the 530 numbers of JSON's table,
+ * 1.3 for 256 rows of few cells, 7 to 28 for the largest table, of 32260 numbers (7 where no cell names a state, 22 where
+ * every one does, 28 where they do by chance); then some 3 nanoseconds a step (bench/reader/checks.sh and calls.c on an
+ * AMD EPYC). For an input of 9 terminals and 20 steps by JSON's table the check is five sixths of the time.
  *
  * Every content of the table and the input, and every length, is answered: nothing is asked of them.
  * To the caller is left:

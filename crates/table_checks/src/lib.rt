@@ -200,14 +200,15 @@ fn names_ok(t: &[u16], z: Shape, from: usize, x: usize, n: usize) -> bool
     requires { ⌜ (Whole (now t) z) × (from + (x + n) ≤ length (now t)) ⌝ }
     ensures { λ r. ⌜ r ≡ allBelow n (λ i. namesOk (now (t .entry)) (x + i) (getD (now (t .entry)) (from + (x + i)) 0)) ⌝ }
 {
-    let mut ok = true;
     let mut i: usize = 0;
     while i < n {
         let y = x + i;
-        ok = both(ok, name_ok(t, z, y, t[from + y]));
+        if !name_ok(t, z, y, t[from + y]) {
+            return false;
+        }
         i += 1;
     }
-    ok
+    true
 }
 
 // The same of 8 cells: most name no state, which one comparison of all tells. A second caller would keep it from being inlined.
