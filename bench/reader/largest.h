@@ -21,7 +21,7 @@ static inline void largest_table(uint16_t *table, enum kind kind)
             /* two states at least are entered under each symbol but 0 */
             int state = x + 123 * (q % 2);
             chance ^= chance << 13, chance ^= chance >> 7, chance ^= chance << 17;
-            int what = kind == FULL ? 1 : kind == BLANK ? 0 : (int)(chance >> 20) % 3;
+            int what = kind == FULL ? 1 : kind == BLANK ? 0 : (int)((chance >> 20) % 3);
             *cell++ = what == 0 ? 0 : x == 0 ? 4096 : what == 2 && x < 64 ? 1024 + q % 128 : state;
         }
 }

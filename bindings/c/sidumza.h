@@ -31,7 +31,7 @@ enum {
     SIDUMZA_ACCEPTED = 0,
 
     /* Refusals, tested in the order 21 (under 4 numbers), 22, 21, 23, 24, 44, 25, 26, 27.
-     * They change neither area. */
+     * They change neither area, and have no stack place in use (SIDUMZA_DEPTH is 0; every end has one at least). */
     SIDUMZA_TABLE_SHORT = 21,    /* the table has under 4 numbers, or fewer than its sizes say */
     SIDUMZA_BAD_SIZES = 22,      /* a size of the table is 0 or above its limit */
     SIDUMZA_BAD_PRODUCTION = 23, /* a left side that is no nonterminal, or a length above 512 */
@@ -77,10 +77,10 @@ enum {
  *   (only a shift and an empty production's reduction push more than they pop).
  * - How many reductions an input takes is the grammar's: 34 tells that the list is too short. By JSON's table (examples/)
  *   an input of 9 terminals takes 10.
- * What a call costs: it checks the whole table first, each time: 0.35 microseconds for the 530 numbers of JSON's table,
- * 1.3 for 256 rows of few cells, 7 to 28 for the largest table, of 32260 numbers (7 where no cell names a state, 22 where
- * every one does, 28 where they do by chance); then some 3 nanoseconds a step (bench/reader/checks.sh and calls.c on an
- * AMD EPYC). For an input of 9 terminals and 20 steps by JSON's table the check is five sixths of the time.
+ * What a call costs: it checks the whole table first, each time: 0.34 microseconds for the 530 numbers of JSON's table,
+ * 1.4 for 256 rows of few cells, 7 to 25 for the largest table, of 32260 numbers (7 where no cell names a state, 21 where
+ * every one does, 25 where half of them do by chance); then some 3 nanoseconds a step (bench/reader/checks.sh and calls.c
+ * on an AMD EPYC). For an input of 9 terminals and 20 steps by JSON's table the check is six sevenths of the time.
  *
  * Every content of the table and the input, and every length, is answered: nothing is asked of them.
  * To the caller is left:

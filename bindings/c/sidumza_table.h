@@ -28,7 +28,9 @@ struct sidumza_fault {
  *
  * text, text_len     the whole text, as maketable prints it. Between words and numbers may stand any number of blanks,
  *                    tabs and line ends (also those with a carriage return), and numbers may have leading zeros.
- * table, table_len   the area for the numbers. One of SIDUMZA_TABLE_MOST is always long enough.
+ * table, table_len   the area for the numbers. One of SIDUMZA_TABLE_MOST is always long enough; where it is too short,
+ *                    the fault's place is that behind the sizes.
+ * fault              must not be NULL. It is written where 0 is returned.
  *
  * Sizes outside their limits are faults here, and so is a text without `entered`, as it was printed before tables had
  * entering symbols. A left side, length, cell or entering symbol with a wrong value is refused by sidumza_parse
@@ -38,8 +40,8 @@ size_t sidumza_read_table(const char *text, size_t text_len, uint16_t *table, si
                           struct sidumza_fault *fault);
 
 /* The symbol under which a state of a table is entered: below T a terminal, from T on a nonterminal; 0 for state 0,
- * which nothing enters. For the states of the stack area after an end, from the bottom up, they are the symbols that the
- * input was read as so far. Also 0 where the table has no such state, or ends before its entering symbols do.
+ * which nothing enters. For the states above state 0 on the stack area after an end, from the bottom up, they are the
+ * symbols that the input was read as so far. Also 0 where the table has no such state, or ends before its entering symbols do.
  */
 uint16_t sidumza_entered(const uint16_t *table, size_t table_len, size_t state);
 

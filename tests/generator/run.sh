@@ -78,7 +78,7 @@ refused() {
     ! "$@" "$built/changed.txt"
 }
 
-# The programs that compare find a changed cell, refusal and answer.
+# The programs that compare find a changed cell, transition, entering symbol, refusal and answer.
 comparisons_fail() {
     cell='0,/^row 1 /s/:1025$/:1024/'
     transition='0,/^row 0 /s/ 2:1 / 1:1 /'

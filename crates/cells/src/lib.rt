@@ -1,4 +1,4 @@
-// The cells of one state from its words, the header of a table, and the zeroing of areas.
+// The cells of one state from its words, what stands in front of a table's rows (header, entering symbols), and the zeroing of areas.
 ghost use mathlib.Core.Path.{_≡_};
 ghost use mathlib.Core.Bool.{true};
 ghost use mathlib.Core.Logic.{_↔_, _≢_};

@@ -19,7 +19,7 @@ use Rattle.lr.proofs.Paths.{Has}
 use Rattle.tables.specs.Layout.{states, terminals, nonterminals, productions, width, cellOf, leftOf, lengthOf, enteredOf, sizeOf}
 use Rattle.machine.specs.Checks.{sizesOk, productionOk, terminalCellOk, cellOk, rowOk, productionsOk, cellsOk, entriesOk, terminalOk, inputOk, tableRefusal, inputRefusal, areaRefusal, refusalOf}
 use Rattle.machine.proofs.Entries.{entries-pass}
-use Rattle.sets.specs.Tests.{unless, orElse}
+use Rattle.sets.specs.Tests.{unless, firstRefusal}
 use Rattle.sets.proofs.TestLaws.{and-true, and-left, and-right, all-true, all-at, between-true}
 use Rattle.claim.proofs.Means.{Limits, TableMeans, automaton, lookahead-added}
 
@@ -127,7 +127,7 @@ module _ (g : Grammar) (f : Formed g) (pr : AllProductive g) (li : Limits g) (t 
   unfolding refusalOf inputRefusal areaRefusal
   refusal-is l n = rw table-passes (go (leb (length l) 65535) (inputOk t l))
     where
-      go : (a b : Bool) → orElse (unless a 25 (unless b 26 0)) (areaRefusal n) ≡ unless a 25 (unless b 26 (unless (ltb 0 n) 27 0))
+      go : (a b : Bool) → firstRefusal (unless a 25 (unless b 26 0)) (areaRefusal n) ≡ unless a 25 (unless b 26 (unless (ltb 0 n) 27 0))
       go false b = refl
       go true false = refl
       go true true = refl

@@ -7,18 +7,18 @@ use native.Mathlib.Omega.{arith}
 use lib.ListN.{length}
 use lib.Dec.{eqb}
 use borrow.Author.Tests.{eq-eqb, eqb-true}
-use Rattle.sets.specs.Lists.{each}
+use Rattle.sets.specs.Lists.{each, peek}
 use Rattle.grammar.specs.Grammar.{Grammar, Formed}
 use Rattle.lr.specs.States.{States}
 use Rattle.lr.specs.Cells.{Entered}
 use Rattle.lr.proofs.ItemLaws.{AllProductive}
 use Rattle.lr.proofs.Entering.{move-enters, one-entered, entered-below, entries}
 use Rattle.lalr.specs.ComputedSets.{when}
-use Rattle.lalr.specs.ComputedStates.{goes, cell, symbolsTo, entering}
+use Rattle.lalr.specs.ComputedStates.{goes, symbolsTo, entering}
 use Rattle.lalr.proofs.Lists.{each-in, From, from, each-from, when-in, when-from}
 
 -- the first of a list stands in it
-first-in : (l : List ℕ) {a : ℕ} → List·Memᴰ a l → List·Memᴰ (cell l) l
+first-in : (l : List ℕ) {a : ℕ} → List·Memᴰ a l → List·Memᴰ (peek l) l
 first-in [] m = absurd (List·Memᴰ·not-nil m)
 first-in (v ∷ vs) m = List·Memᴰ·head refl
 
@@ -52,9 +52,9 @@ module _ (g : Grammar) (f : Formed g) (pr : AllProductive g) (rows : List (List 
   behind-move p x h nz (suc q) e =
       let E = move-enters g st p x h nz in
       let m : List·Memᴰ x (symbolsTo g rows (suc q)) = rw e at (leads-in p x h (entered-below g f pr E)) in
-      let t = leads-from (suc q) (cell (symbolsTo g rows (suc q))) (first-in (symbolsTo g rows (suc q)) m) in
-      let z : next (t .0) (cell (symbolsTo g rows (suc q))) ≢ 0 = λ k. nz (e ∙ sym (t .2) ∙ k) in
-      one-entered g st (rw (t .2 ∙ sym e) at (move-enters g st (t .0) (cell (symbolsTo g rows (suc q))) (t .1) z)) E
+      let t = leads-from (suc q) (peek (symbolsTo g rows (suc q))) (first-in (symbolsTo g rows (suc q)) m) in
+      let z : next (t .0) (peek (symbolsTo g rows (suc q))) ≢ 0 = λ k. nz (e ∙ sym (t .2) ∙ k) in
+      one-entered g st (rw (t .2 ∙ sym e) at (move-enters g st (t .0) (peek (symbolsTo g rows (suc q))) (t .1) z)) E
 
   pub entering-is : (q x : ℕ) → q < length rows → (entering g rows q ≡ x) ↔ Entered g (goes g rows) q x
   entering-is = entries g st (entering g rows) refl (λ p x h nz. behind-move p x h nz (next p x) refl)

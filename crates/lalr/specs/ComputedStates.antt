@@ -7,7 +7,7 @@ use Prim.Native.Nat.{ℕ, zero, suc, _+_, _*_, _-_, _^_, _/_, _%_}
 use lib.ListN.{length, getD, drop}
 use lib.Dec.{eqb, ltb}
 use Rattle.grammar.specs.Grammar.{Grammar}
-use Rattle.sets.specs.Lists.{each}
+use Rattle.sets.specs.Lists.{each, peek}
 use Rattle.sets.specs.Bit.{bit}
 use Rattle.tables.specs.Layout.{reduction, accept}
 use Rattle.lalr.specs.ComputedSets.{withAll, reach, when}
@@ -144,4 +144,4 @@ module _ (g : Grammar) where
 
   abbrev pub entering : List (List ℕ) → ℕ → ℕ
   entering rows zero = 0
-  entering rows (suc q) = cell (symbolsTo rows (suc q))
+  entering rows (suc q) = peek (symbolsTo rows (suc q))

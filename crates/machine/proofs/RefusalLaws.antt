@@ -8,7 +8,7 @@ use lib.ListN.{length, replicate, length-replicate}
 use lib.Dec.{leb, ltb}
 use native.Mathlib.Omega.{arith}
 use borrow.Author.Tests.{lt-leb}
-use Rattle.sets.specs.Tests.{allBelow, between, unless, orElse}
+use Rattle.sets.specs.Tests.{allBelow, between, unless, firstRefusal}
 use Rattle.tables.specs.Layout.{states, terminals, nonterminals, productions, width, leftOf, lengthOf, enteredOf, cellOf, sizeOf}
 use Rattle.machine.specs.Checks.{sizesOk, productionOk, terminalCellOk, cellOk, rowOk, productionsOk, cellsOk, entryOk, namesOk, rowNamesOk, entriesOk, terminalOk, inputOk, tableRefusal, inputRefusal, areaRefusal, refusalOf, TableRefusal, table-short, sizes-wrong, production-wrong, cell-wrong, entry-wrong, Refusal, of-table, input-long, terminal-wrong, no-stack}
 
@@ -19,7 +19,7 @@ module _ (P : ℕ → Type 0) where
   test true h rest n = rest n
   test false h rest n = h
 
-  first : (m n : ℕ) → (m ≢ 0 → P m) → (n ≢ 0 → P n) → orElse m n ≢ 0 → P (orElse m n)
+  first : (m n : ℕ) → (m ≢ 0 → P m) → (n ≢ 0 → P n) → firstRefusal m n ≢ 0 → P (firstRefusal m n)
   first zero n f g h = g h
   first (suc m) n f g h = f h
 
@@ -75,7 +75,7 @@ pub refusal-comes : {k : ℕ} → Refusal k → (t l : List ℕ) × (n : ℕ) ×
 unfolding refusalOf inputRefusal areaRefusal inputOk terminalOk allBelow
 refusal-comes (of-table r) = let t = table-comes r in (t .0, [], 0, go r (t .1))
   where
-    go : {m k : ℕ} → TableRefusal k → m ≡ k → orElse m 27 ≡ k
+    go : {m k : ℕ} → TableRefusal k → m ≡ k → firstRefusal m 27 ≡ k
     go table-short e = rw e
     go sizes-wrong e = rw e
     go production-wrong e = rw e

@@ -4,7 +4,7 @@ use mathlib.Core.List.{List}
 use mathlib.Core.Bool.{Bool, true, false, not, cond, _&&_}
 use lib.ListN.{length, getD}
 use lib.Dec.{ltb, leb, eqb}
-use Rattle.sets.specs.Tests.{allBelow, between, unless, orElse}
+use Rattle.sets.specs.Tests.{allBelow, between, unless, firstRefusal}
 use Rattle.tables.specs.Layout.{states, terminals, nonterminals, productions, width, leftOf, lengthOf, enteredOf, accept, cellOf, sizeOf}
 
 -- 22: the limits of the paper, and Q at least 1
@@ -75,7 +75,7 @@ unfoldable pub areaRefusal : ℕ → ℕ
 areaRefusal n = unless (ltb 0 n) 27 0
 
 unfoldable pub refusalOf : List ℕ → List ℕ → ℕ → ℕ
-refusalOf t l n = orElse (tableRefusal t) (orElse (inputRefusal t l) (areaRefusal n))
+refusalOf t l n = firstRefusal (tableRefusal t) (firstRefusal (inputRefusal t l) (areaRefusal n))
 
 -- the numbers of the refusals: just these come, by proofs/RefusalLaws.antt
 pub data TableRefusal : ℕ → Type 0 where

@@ -8,7 +8,7 @@ use native.Mathlib.Numerals.{add-one}
 use native.Mathlib.Omega.{arith}
 use lib.Dec.{leb}
 use borrow.Author.Tests.{leb-true, le-leb}
-use Rattle.sets.specs.Tests.{allBelow, between, unless, orElse}
+use Rattle.sets.specs.Tests.{allBelow, between, unless, firstRefusal}
 
 -- ---- both of two tests
 
@@ -108,6 +108,6 @@ pub passes : (b : Bool) (k r : ℕ) → unless b (suc k) r ≡ 0 → (b ≡ true
 passes true k r e = (refl, e)
 passes false k r e = absurd (omega arith)
 
-pub neither : (m n : ℕ) → orElse m n ≡ 0 → (m ≡ 0) × (n ≡ 0)
+pub neither : (m n : ℕ) → firstRefusal m n ≡ 0 → (m ≡ 0) × (n ≡ 0)
 neither zero n e = (refl, e)
 neither (suc m) n e = absurd (omega arith)

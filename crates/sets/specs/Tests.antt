@@ -17,7 +17,7 @@ abbrev pub unless : Bool → ℕ → ℕ → ℕ
 unless true n r = r
 unless false n r = n
 
--- the refusal m, and where it is none (0) the refusal n
-abbrev pub orElse : ℕ → ℕ → ℕ
-orElse zero n = n
-orElse (suc m) n = suc m
+-- the refusal m; where it is none, which is 0, the refusal n
+abbrev pub firstRefusal : ℕ → ℕ → ℕ
+firstRefusal zero n = n
+firstRefusal (suc m) n = suc m

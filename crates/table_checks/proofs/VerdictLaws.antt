@@ -5,7 +5,7 @@ use mathlib.Core.List.{List}
 use native.Mathlib.Omega.{arith}
 use lib.ListN.{length}
 use borrow.Author.Tests.{le-leb}
-use Rattle.sets.specs.Tests.{unless, orElse}
+use Rattle.sets.specs.Tests.{unless, firstRefusal}
 use Rattle.tables.specs.Layout.{sizeOf}
 use Rattle.tables.specs.declared.Shape.{Shape}
 use Rattle.machine.specs.Checks.{productionsOk, cellsOk, entriesOk, tableRefusal}
@@ -25,7 +25,7 @@ pub of-parts : {t : List ℕ} {z : Shape} → Whole t z → tableRefusal t ≡ u
 unfolding tableRefusal
 of-parts {t} w = rw (le-leb 4 (length t) (four w), w .sizes, le-leb (sizeOf t) (length t) (w .whole))
 
-stays : (e : Refusal) (n : ℕ) → refusalNumber e ≡ orElse (refusalNumber e) n
+stays : (e : Refusal) (n : ℕ) → refusalNumber e ≡ firstRefusal (refusalNumber e) n
 stays TableShort n = refl
 stays SizesWrong n = refl
 stays ProductionWrong n = refl
@@ -36,11 +36,11 @@ stays TerminalWrong n = refl
 stays NoStack n = refl
 
 module _ {v : Verdict} {m : ℕ} (is : verdictNumber v ≡ m) where
-  pub first-refused : (e : Refusal) (n : ℕ) → v ≡ Refused e → refusalNumber e ≡ orElse m n
-  first-refused e n h = stays e n ∙ ap (λ (k : ℕ). orElse k n) (sym (ap verdictNumber h) ∙ is)
+  pub first-refused : (e : Refusal) (n : ℕ) → v ≡ Refused e → refusalNumber e ≡ firstRefusal m n
+  first-refused e n h = stays e n ∙ ap (λ (k : ℕ). firstRefusal k n) (sym (ap verdictNumber h) ∙ is)
 
   pub no-refusal : v ≡ Passed → m ≡ 0
   no-refusal h = sym is ∙ ap verdictNumber h
 
-  pub first-passed : {k n : ℕ} → v ≡ Passed → k ≡ n → k ≡ orElse m n
+  pub first-passed : {k n : ℕ} → v ≡ Passed → k ≡ n → k ≡ firstRefusal m n
   first-passed h e = rw (no-refusal h) e

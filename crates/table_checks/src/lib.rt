@@ -6,7 +6,7 @@ ghost use mathlib.Core.List.{List};
 ghost use Prim.Native.Nat.{ℕ, _+_, _<_, _≤_};
 ghost use lib.ListN.{length, getD};
 ghost use lib.Dec.{ltb};
-ghost use Rattle.sets.specs.Tests.{allBelow, between as betweenOf, orElse};
+ghost use Rattle.sets.specs.Tests.{allBelow, between as betweenOf, firstRefusal};
 ghost use Rattle.tables.specs.Layout.{states, terminals, productions, lengthAt};
 ghost use Rattle.tables.specs.Shape.{Shaped};
 ghost use Rattle.machine.specs.Checks.{sizesOk, productionOk, productionsOk, rowOk, cellsOk, entryOk, namesOk, rowNamesOk, entriesOk, inputOk};
@@ -239,19 +239,19 @@ fn row_names_ok(t: &[u16], z: Shape, q: usize) -> bool
     names_ok(t, z, from, x, n - x)
 }
 
+// The same of all rows. With a way out at the first wrong row the parser's loop, compiled into one function with this, took 3 % more time.
 fn rows_names_ok(t: &[u16], z: Shape) -> bool
     requires { ⌜ Whole (now t) z ⌝ }
     ensures { λ r. ⌜ r ≡ allBelow (states (now (t .entry))) (rowNamesOk (now (t .entry))) ⌝ }
 {
     let rows = z.states;
+    let mut ok = true;
     let mut q: usize = 0;
     while q < rows {
-        if !row_names_ok(t, z, q) {
-            return false;
-        }
+        ok = both(ok, row_names_ok(t, z, q));
         q += 1;
     }
-    true
+    ok
 }
 
 fn entries_ok(t: &[u16], z: Shape) -> bool
@@ -340,10 +340,10 @@ fn check_area(n: usize) -> Verdict
     }
 }
 
-// The first refusal that applies to what is read by a table, an input and a stack area of n places.
+// The first refusal that applies to an input for a table and to a stack area of n places.
 fn check_lent(t: &[u16], l: &[u8], n: usize) -> Verdict
     requires { ⌜ tableRefusal (now t) ≡ 0 ⌝ }
-    ensures { λ r. ⌜ verdictNumber r ≡ orElse (inputRefusal (now (t .entry)) (now (l .entry))) (areaRefusal n) ⌝ }
+    ensures { λ r. ⌜ verdictNumber r ≡ firstRefusal (inputRefusal (now (t .entry)) (now (l .entry))) (areaRefusal n) ⌝ }
 {
     let v = check_input(t, l);
     match v {

@@ -48,7 +48,7 @@ leftOf t r = getD t (leftAt r) 0
 unfoldable pub lengthOf : List ℕ → ℕ → ℕ
 lengthOf t r = getD t (lengthAt (productions t) r) 0
 
--- the symbol under which state q is entered
+-- the entry of state q: in the maker's tables the symbol under which it is entered
 unfoldable pub enteredOf : List ℕ → ℕ → ℕ
 enteredOf t q = getD t (enteredAt (productions t) q) 0
 

@@ -38,7 +38,7 @@ pub fn header_size(p: usize) -> usize
     4 + 2 * p
 }
 
-// The place of the entering symbol of state q, behind p productions.
+// The place of the entry of state q, behind p productions.
 pub fn entered_at(p: usize, q: usize) -> usize
     requires { ⌜ enteredAt p q < 2 ^ 64 ⌝ }
     ensures { λ i. ⌜ i ≡ enteredAt p q ⌝ }
@@ -111,7 +111,7 @@ pub fn length_of(t: &[u16], z: Shape, r: usize) -> u16
     t[length_at(z.productions, r)]
 }
 
-// The symbol under which state q is entered.
+// The entry of state q: in the maker's tables the symbol under which it is entered.
 pub fn entered(t: &[u16], z: Shape, q: usize) -> u16
     requires { ⌜ (Shaped (now t) z) × (enteredAt (productions (now t)) q < length (now t)) ⌝ }
     ensures { λ v. ⌜ v ≡ enteredOf (now (t .entry)) q ⌝ }
