@@ -40,8 +40,9 @@ size_t sidumza_read_table(const char *text, size_t text_len, uint16_t *table, si
                           struct sidumza_fault *fault);
 
 /* The symbol under which a state of a table is entered: below T a terminal, from T on a nonterminal; 0 for state 0,
- * which nothing enters. For the states above state 0 on the stack area after an end, from the bottom up, they are the
- * symbols that the input was read as so far. Also 0 where the table has no such state, or ends before its entering symbols do.
+ * which nothing enters. Those of the states above state 0 on the stack area after an end, from the bottom up, are the
+ * symbols that the input was read as so far. Also 0 where the table has no such state, or ends before its entering
+ * symbols do.
  */
 uint16_t sidumza_entered(const uint16_t *table, size_t table_len, size_t state);
 

@@ -56,7 +56,7 @@ pub fn read_table(text: &[u8]) -> Result<Vec<u16>, TableFault> {
 }
 
 /// The symbol under which each state of a table is entered: below T a terminal, from T on a nonterminal; 0 for state 0,
-/// which nothing enters. For the states above state 0 on the stack area after an end, from the bottom up, they are the
+/// which nothing enters. Those of the states above state 0 on the stack area after an end, from the bottom up, are the
 /// symbols that the input was read as so far. Empty where the table ends before its entering symbols do.
 pub fn entered(table: &[u16]) -> &[u16] {
     let [states, _, _, productions, ..] = table else { return &[] };

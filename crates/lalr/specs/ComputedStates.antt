@@ -133,9 +133,9 @@ module _ (g : Grammar) where
       ++ (each g.productions (λ r. when (bit f (fact q (first r + length (g.right r)) a)) (reduction r ∷ []))
       ++ when (bit f (fact q (first g.productions + 1) a)) (accept ∷ []))
 
+-- the cell where these meet: the lowest of them, 0 where there is none
 abbrev pub cell : List ℕ → ℕ
-cell [] = 0
-cell (v ∷ vs) = v
+cell vs = peek vs
 
 -- ---- the entering symbol of state q: the first of the symbols that lead to it, and 0 for state 0, to which none does
 module _ (g : Grammar) where

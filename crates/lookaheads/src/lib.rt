@@ -1,4 +1,4 @@
-// The lookaheads of each state, and the cells of the table.
+// The lookaheads of each state, and the table: cells, entering symbols, zeros.
 ghost use mathlib.Core.Path.{_≡_};
 ghost use mathlib.Core.List.{List};
 ghost use Prim.Native.Nat.{ℕ, _+_, _<_, _≤_, _^_};

@@ -41,7 +41,7 @@ cellsOk t = allBelow (states t) (rowOk t)
 unfoldable pub entryOk : List ℕ → ℕ → Bool
 entryOk t q = ltb (enteredOf t q) (width t)
 
--- a cell v in column x names a state where v is 1 to Q−1, and that state's entry is x
+-- a cell v of 1 to Q−1 names state v; then the entry of v is the cell's column x. Other cells name none
 unfoldable pub namesOk : List ℕ → ℕ → ℕ → Bool
 namesOk t x v = cond (ltb 0 v && ltb v (states t)) (eqb (enteredOf t v) x) true
 

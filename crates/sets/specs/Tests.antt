@@ -17,7 +17,7 @@ abbrev pub unless : Bool → ℕ → ℕ → ℕ
 unless true n r = r
 unless false n r = n
 
--- the refusal m; where it is none, which is 0, the refusal n
+-- the first of two refusals, 0 being none: m, or n where m is 0
 abbrev pub firstRefusal : ℕ → ℕ → ℕ
 firstRefusal zero n = n
 firstRefusal (suc m) n = suc m

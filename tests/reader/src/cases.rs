@@ -150,7 +150,7 @@ fn expressions() -> Grammar {
     Grammar { terminals: 6, nonterminals: 3, left: vec![6, 6, 7, 7, 8, 8], right: right.to_vec() }
 }
 
-// Entering symbols of q states, of w symbols: each symbol but 0 in turn, so that few columns name no state, or any.
+// Entering symbols of q states, of w symbols: each symbol but 0 in turn, so that few columns name no state, or by chance.
 fn entering_symbols(r: &mut Random, q: usize, w: usize) -> Vec<u16> {
     let (in_turn, first) = (!r.one_in(4), r.below(w));
     let symbol = |i: usize, r: &mut Random| match i {
