@@ -36,8 +36,8 @@ productionsOk t = allBelow (productions t) (productionOk t)
 unfoldable pub cellsOk : List ℕ → Bool
 cellsOk t = allBelow (states t) (rowOk t)
 
--- 44: "an entry at least T+N, or not 0 for state 0, or differing from the column of a cell that names the state"
--- the entry of state q is a symbol
+-- 44: "an entry at least T+N, or not 0 for state 0, or differing from the column of a cell that names the state".
+-- The entry of state q is below T+N
 unfoldable pub entryOk : List ℕ → ℕ → Bool
 entryOk t q = ltb (enteredOf t q) (width t)
 
@@ -45,9 +45,11 @@ entryOk t q = ltb (enteredOf t q) (width t)
 unfoldable pub namesOk : List ℕ → ℕ → ℕ → Bool
 namesOk t x v = cond (ltb 0 v && ltb v (states t)) (eqb (enteredOf t v) x) true
 
+-- so for each cell of row q
 unfoldable pub rowNamesOk : List ℕ → ℕ → Bool
 rowNamesOk t q = allBelow (width t) (λ x. namesOk t x (cellOf t q x))
 
+-- none of the three
 unfoldable pub entriesOk : List ℕ → Bool
 entriesOk t = allBelow (states t) (entryOk t) && (eqb (enteredOf t 0) 0 && allBelow (states t) (rowNamesOk t))
 

@@ -223,6 +223,7 @@ fn part_ok(t: &[u16], z: Shape, from: usize, x: usize) -> bool
     }
 }
 
+// The same of row q, eight cells at a time.
 fn row_names_ok(t: &[u16], z: Shape, q: usize) -> bool
     requires { ⌜ (Whole (now t) z) × (q < states (now t)) ⌝ }
     ensures { λ r. ⌜ r ≡ rowNamesOk (now (t .entry)) q ⌝ }
@@ -254,6 +255,7 @@ fn rows_names_ok(t: &[u16], z: Shape) -> bool
     ok
 }
 
+// Whether 44 does not apply.
 fn entries_ok(t: &[u16], z: Shape) -> bool
     requires { ⌜ Whole (now t) z ⌝ }
     ensures { λ r. ⌜ r ≡ entriesOk (now (t .entry)) ⌝ }
@@ -278,7 +280,7 @@ fn input_ok(l: &[u8], n: u8) -> bool
     ok
 }
 
-// The first refusal that applies to a table of allowed sizes that is long enough.
+// The first refusal that applies to a table of allowed sizes that is long enough. All are tested before the first is chosen; a good table needs all.
 fn check_parts(t: &[u16], z: Shape) -> Verdict
     requires { ⌜ Whole (now t) z ⌝ }
     ensures { λ r. ⌜ verdictNumber r ≡ tableRefusal (now (t .entry)) ⌝ }
