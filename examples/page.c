@@ -3,7 +3,8 @@
  *   page TABLE [STEP_LIMIT [STACK [LIST]]]
  *
  * TABLE is a table as maketable prints it. A line is terminals in decimal; an empty line is the empty
- * input. Each line gets one line of answer.
+ * input. Each line gets one line of answer. That of a wrong line names the symbols that the terminals before
+ * the place were read as: those under which the states on the stack were entered.
  */
 #include <ctype.h>
 #include <errno.h>
@@ -19,6 +20,11 @@ static const char *const refusals[] = {
     "table too short", "bad sizes in the table", "bad production in the table", "bad cell in the table",
     "input too long",  "no such terminal",       "no stack area",
 };
+
+static const char *refusal(uint64_t number)
+{
+    return number == SIDUMZA_BAD_ENTERED ? "bad entering symbol in the table" : refusals[number - SIDUMZA_TABLE_SHORT];
+}
 
 static void fail(const char *form, ...)
 {
@@ -88,7 +94,8 @@ static size_t load(const char *path, uint16_t *table, size_t table_len)
     return n;
 }
 
-static void show(const uint64_t *out, const uint16_t *list)
+static void show(const uint64_t *out, const uint16_t *table, size_t table_len, const uint16_t *stack,
+                 const uint16_t *list)
 {
     uint64_t n = out[SIDUMZA_NUMBER];
     unsigned long long steps = out[SIDUMZA_STEPS];
@@ -97,13 +104,16 @@ static void show(const uint64_t *out, const uint16_t *list)
         for (uint64_t i = 0; i < out[SIDUMZA_LISTED]; i++)
             printf(" %u", list[i]);
     } else if (n == SIDUMZA_NO_ACTION) {
-        printf("wrong at %llu: steps %llu, expected", (unsigned long long)out[SIDUMZA_POSITION], steps);
+        printf("wrong at %llu: steps %llu", (unsigned long long)out[SIDUMZA_POSITION], steps);
+        for (uint64_t i = 1; i < out[SIDUMZA_DEPTH]; i++)
+            printf("%s %u", i == 1 ? ", after" : "", sidumza_entered(table, table_len, stack[i]));
+        printf(", expected");
         uint8_t terminals[64];
         size_t many = sidumza_terminals(out[SIDUMZA_EXPECTED], terminals);
         for (size_t i = 0; i < many; i++)
             printf(" %u", terminals[i]);
-    } else if (n < SIDUMZA_NO_ACTION) {
-        printf("refused %llu: %s", (unsigned long long)n, refusals[n - SIDUMZA_TABLE_SHORT]);
+    } else if (n < SIDUMZA_NO_ACTION || n == SIDUMZA_BAD_ENTERED) {
+        printf("refused %llu: %s", (unsigned long long)n, refusal(n));
     } else {
         printf("stopped %llu: steps %llu, stack %llu, listed %llu", (unsigned long long)n, steps,
                (unsigned long long)out[SIDUMZA_DEPTH], (unsigned long long)out[SIDUMZA_LISTED]);
@@ -126,8 +136,8 @@ int main(int argc, char **argv)
     uint16_t *stack = room(NULL, limits[1] * sizeof *stack), *list = room(NULL, limits[2] * sizeof *list);
     uint64_t out[SIDUMZA_OUT];
     sidumza_parse(table, table_len, NULL, 0, stack, limits[1], list, limits[2], 0, out);
-    if (out[0] >= SIDUMZA_TABLE_SHORT && out[0] <= SIDUMZA_BAD_CELL)
-        fail("%s: refused %d: %s", argv[1], (int)out[0], refusals[out[0] - SIDUMZA_TABLE_SHORT]);
+    if ((out[0] >= SIDUMZA_TABLE_SHORT && out[0] <= SIDUMZA_BAD_CELL) || out[0] == SIDUMZA_BAD_ENTERED)
+        fail("%s: refused %d: %s", argv[1], (int)out[0], refusal(out[0]));
 
     char *line = NULL;
     uint8_t *input = NULL;
@@ -143,7 +153,7 @@ int main(int argc, char **argv)
         if (s != line + got)
             fail("line %lu: not a line of terminals", k);
         sidumza_parse(table, table_len, input, n, stack, limits[1], list, limits[2], limits[0], out);
-        show(out, list);
+        show(out, table, table_len, stack, list);
     }
     if (ferror(stdin) || fflush(stdout) != 0)
         fail("cannot read or write");

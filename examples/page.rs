@@ -3,8 +3,9 @@
 //   page TABLE [STEP_LIMIT [STACK [LIST]]]
 //
 // TABLE is a table as maketable prints it. A line is terminals in decimal; an empty line is the empty
-// input. Each line gets one line of answer.
-use sidumza::{parse, read_table, Answer, Refusal};
+// input. Each line gets one line of answer. That of a wrong line names the symbols that the terminals before
+// the place were read as: those under which the states on the stack were entered.
+use sidumza::{entered, parse, read_table, terminals, Answer, Refusal};
 use std::io::{BufRead, Write};
 
 fn fail(why: String) -> ! {
@@ -18,11 +19,21 @@ fn number(word: &str, max: u64) -> Option<u64> {
     word.parse().ok().filter(|&v| digits && v <= max)
 }
 
-fn show(answer: Answer, list: &[u16]) -> String {
+fn words(numbers: impl Iterator<Item = u32>) -> String {
+    numbers.map(|n| format!(" {n}")).collect()
+}
+
+fn show(answer: Answer, table: &[u16], stack: &[u16], list: &[u16]) -> String {
     match answer {
         Answer::Accepted { counts } => {
-            let listed: String = list[..counts.listed].iter().map(|p| format!(" {p}")).collect();
+            let listed = words(list[..counts.listed].iter().map(|&p| p.into()));
             format!("accepted: steps {}, productions{listed}", counts.steps)
+        }
+        Answer::NoAction { position, expected, counts, .. } => {
+            let read = words(stack[1..counts.depth].iter().map(|&q| entered(table)[q as usize].into()));
+            let after = if read.is_empty() { "" } else { ", after" };
+            let expected = words(terminals(expected));
+            format!("wrong at {position}: steps {}{after}{read}, expected{expected}", counts.steps)
         }
         other => other.to_string(),
     }
@@ -56,7 +67,7 @@ fn main() {
             fail(format!("line {}: not a line of terminals", k + 1))
         };
         let answer = parse(&table, &input, &mut stack, &mut list, limits[0] as u32);
-        writeln!(out, "{}", show(answer, &list)).unwrap_or_else(|e| fail(e.to_string()));
+        writeln!(out, "{}", show(answer, &table, &stack, &list)).unwrap_or_else(|e| fail(e.to_string()));
     }
     out.flush().unwrap_or_else(|e| fail(e.to_string()));
 }

@@ -13,7 +13,7 @@
 
 #include "sidumza_generator.h"
 
-enum { TABLE = 32004, WORK = 8192, WORK2 = 16384, CARD = 772 };
+enum { TABLE = SIDUMZA_TABLE, WORK = SIDUMZA_WORDS, WORK2 = SIDUMZA_HALVES, CARD = 772 };
 static uint16_t card[CARD], table[TABLE];
 static uint64_t work[WORK], out[5];
 static uint32_t work2[WORK2];

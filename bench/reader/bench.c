@@ -5,6 +5,7 @@
 #include <string.h>
 #include <time.h>
 
+#include "largest.h"
 #include "loop.h"
 #include "sidumza.h"
 
@@ -106,19 +107,19 @@ int main(void)
                best[ARCHIVE] / best[TUNED]);
     }
 
-    /* The largest table: every cell a shift or a next state. */
-    static uint16_t large[4 + 256 + 256 * 124] = {256, 64, 60, 128};
-    for (int p = 0; p < 128; p++)
-        large[4 + p] = 64;
-    for (int c = 0; c < 256 * 124; c++)
-        large[260 + c] = c % 124 == 0 ? 0 : 1 + c % 255;
+    static uint16_t large[LARGEST];
+    largest_table(large, FULL);
     printf("\nns per table cell, a parse of the empty input\n%-12s %10s %9s %9s  archive/plain\n", "table", "cells",
            names[ARCHIVE], names[PLAIN]);
     for (size_t i = 0; i <= sizeof grammars / sizeof *grammars; i++) {
         int last = i == sizeof grammars / sizeof *grammars;
         const uint16_t *t = last ? large : grammars[i].table;
-        size_t len = last ? sizeof large / 2 : grammars[i].table_len, cells = len - 4 - 2 * t[3];
+        size_t len = last ? LARGEST : grammars[i].table_len, cells = len - 4 - 2 * t[3] - t[0];
         double archive = check(ARCHIVE, t, len, rounds) / cells, plain = check(PLAIN, t, len, rounds) / cells;
+        if ((out[0] > SIDUMZA_ACCEPTED && out[0] < SIDUMZA_NO_ACTION) || out[0] == SIDUMZA_BAD_ENTERED) {
+            printf("a table is refused with %llu\n", (unsigned long long)out[0]);
+            return 1;
+        }
         printf("%-12s %10zu %9.3f %9.3f  %13.2f\n", last ? "largest" : grammars[i].name, cells, archive, plain,
                archive / plain);
     }

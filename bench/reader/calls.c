@@ -5,6 +5,7 @@
 #include <stdlib.h>
 #include <time.h>
 
+#include "largest.h"
 #include "sidumza.h"
 #include "sidumza_table.h"
 
@@ -50,11 +51,7 @@ int main(int argc, char **argv)
     double whole = call(table, len, input, (size_t)argc - 2, 1000000);
     printf("%s: %zu numbers, check %.0f ns; input of %d terminals: answer %llu, %llu steps, %.0f ns with the check\n", argv[1],
            len, check, argc - 2, (unsigned long long)out[0], (unsigned long long)out[1], whole);
-    largest[0] = 256, largest[1] = 64, largest[2] = 60, largest[3] = 128;
-    for (int i = 0; i < 128; i++)
-        largest[4 + i] = 64;
-    for (size_t i = 4 + 256; i < SIDUMZA_TABLE_MOST; i++)
-        largest[i] = (i - 260) % 124 == 0 ? 1024 : 1 + i % 255;
+    largest_table(largest, FULL);
     check = call(largest, SIDUMZA_TABLE_MOST, NULL, 0, 0);
     printf("the largest table: %d numbers, answer %llu, check %.0f ns\n", SIDUMZA_TABLE_MOST, (unsigned long long)out[0], check);
     return out[0] != SIDUMZA_STEP_LIMIT;

@@ -9,22 +9,30 @@ static unsigned check(const uint16_t *t, size_t t_len, const uint8_t *in, size_t
     unsigned Q = t[0], T = t[1], N = t[2], P = t[3], W = T + N;
     if (Q < 1 || Q > 256 || T < 1 || T > 64 || N < 1 || N > 60 || P < 1 || P > 128)
         return 22;
-    if (t_len < 4 + 2 * P + Q * W)
+    if (t_len < 4 + 2 * P + Q + Q * W)
         return 21;
     for (unsigned r = 0; r < P; r++)
         if (t[4 + r] < T || t[4 + r] >= W || t[4 + P + r] > 512)
             return 23;
-    const uint16_t *row = t + 4 + 2 * P;
+    const uint16_t *entered = t + 4 + 2 * P, *row = entered + Q;
+    unsigned other = entered[0] != 0;
     for (unsigned q = 0; q < Q; q++, row += W) {
+        other |= entered[q] >= W;
         if (row[0] != 0 && row[0] != 4096 && row[0] - 1024u >= P)
             return 24;
-        for (unsigned x = 1; x < T; x++)
+        for (unsigned x = 1; x < T; x++) {
             if (row[x] >= Q && row[x] - 1024u >= P)
                 return 24;
-        for (unsigned x = T; x < W; x++)
+            other |= row[x] != 0 && row[x] < Q && entered[row[x]] != x;
+        }
+        for (unsigned x = T; x < W; x++) {
             if (row[x] >= Q)
                 return 24;
+            other |= row[x] != 0 && entered[row[x]] != x;
+        }
     }
+    if (other)
+        return 44;
     if (in_len > 65535)
         return 25;
     for (size_t i = 0; i < in_len; i++)
@@ -36,7 +44,7 @@ static unsigned check(const uint16_t *t, size_t t_len, const uint8_t *in, size_t
 static void answer(const uint16_t *t, unsigned end, uint32_t steps, size_t depth, size_t listed, size_t pos, unsigned top,
                    uint64_t out[7])
 {
-    const uint16_t *row = t + 4 + 2 * t[3] + top * (t[1] + t[2]);
+    const uint16_t *row = t + 4 + 2 * t[3] + t[0] + top * (t[1] + t[2]);
     out[0] = end, out[1] = steps, out[2] = depth, out[3] = listed;
     if (end != 31)
         return;
@@ -63,7 +71,7 @@ void plain_parse(const uint16_t *t, size_t t_len, const uint8_t *in, size_t in_l
     if (out[0])
         return;
     unsigned W = t[1] + t[2], top = 0, end;
-    const uint16_t *left = t + 4, *length = left + t[3], *cells = length + t[3];
+    const uint16_t *left = t + 4, *length = left + t[3], *cells = length + t[3] + t[0];
     size_t depth = 1, listed = 0, pos = 0;
     uint32_t steps = 0;
     stack[0] = 0;
@@ -136,7 +144,7 @@ void tuned_parse(const uint16_t *t, size_t t_len, const uint8_t *in, size_t in_l
         return;
     size_t W = t[1] + t[2], top = 0;
     unsigned end;
-    const uint16_t *left = t + 4, *length = left + t[3], *cells = length + t[3];
+    const uint16_t *left = t + 4, *length = left + t[3], *cells = length + t[3] + t[0];
     size_t depth = 1, listed = 0, pos = 0;
     uint32_t steps = 0;
     const uint16_t *column = cells + (in_len > 0 ? in[0] : 0);

@@ -30,8 +30,8 @@ enum {
 enum {
     SIDUMZA_ACCEPTED = 0,
 
-    /* Refusals, tested in the order 21 (under 4 numbers), 22, 21, 23, 24, 25, 26, 27.
-     * They change neither area. */
+    /* Refusals, tested in the order 21 (under 4 numbers), 22, 21, 23, 24, 44, 25, 26, 27.
+     * They change neither area, and have no stack place in use (SIDUMZA_DEPTH is 0; every end has one at least). */
     SIDUMZA_TABLE_SHORT = 21,    /* the table has under 4 numbers, or fewer than its sizes say */
     SIDUMZA_BAD_SIZES = 22,      /* a size of the table is 0 or above its limit */
     SIDUMZA_BAD_PRODUCTION = 23, /* a left side that is no nonterminal, or a length above 512 */
@@ -39,6 +39,8 @@ enum {
     SIDUMZA_INPUT_LONG = 25,     /* the input is longer than 65535 */
     SIDUMZA_BAD_TERMINAL = 26,   /* an input byte that is 0 or no terminal of the table */
     SIDUMZA_NO_STACK = 27,       /* the stack area is empty */
+    SIDUMZA_BAD_ENTERED = 44,    /* an entering symbol that is at least T + N, or not 0 for state 0, or other than the
+                                    column of a cell that names the state */
 
     /* Ends, tested in the order 31, 32, 34, 35, 33 before each step. */
     SIDUMZA_NO_ACTION = 31,  /* the input is no sentence: no action for the next terminal */
@@ -52,13 +54,16 @@ enum {
  *
  * table, table_len   the parse table in 16-bit numbers: the sizes Q (states, 1 to 256),
  *                    T (terminals, 1 to 64), N (nonterminals, 1 to 60), P (productions, 1 to 128);
- *                    P left sides; P lengths; Q rows of T + N cells. In a terminal's column 0 is
+ *                    P left sides; P lengths; Q entering symbols: the symbol under which each state is
+ *                    entered, 0 for state 0; Q rows of T + N cells. In a terminal's column 0 is
  *                    no action, 1 to Q-1 shifts, 1024 + r reduces by production r, and 4096 accepts
  *                    (terminal 0 only); in a nonterminal's column stands the next state, or 0.
- *                    Numbers behind the last row are ignored.
+ *                    Numbers behind the last row are ignored. A table without entering symbols is not recognised: it
+ *                    is read by this form all the same.
  * input, input_len   one byte for each terminal, 1 to T-1; the end marker 0 is not in it.
  * stack, stack_len   the stack area. After an end the first `depth` places hold states, place 0 state 0;
- *                    places used and popped are 0; places never used are unchanged.
+ *                    places used and popped are 0; places never used are unchanged. The symbol under which one of
+ *                    these states was entered: sidumza_entered of sidumza_table.h.
  * list, list_len     the list area. After an end the first `listed` places hold the productions
  *                    in the order of the reductions (backwards they are a rightmost derivation);
  *                    the others are unchanged.
@@ -72,10 +77,11 @@ enum {
  *   (only a shift and an empty production's reduction push more than they pop).
  * - How many reductions an input takes is the grammar's: 34 tells that the list is too short. By JSON's table (examples/)
  *   an input of 9 terminals takes 10.
- * What a call costs: it checks the whole table first, each time: 0.2 microseconds for the 504 numbers of JSON's table,
- * 1 for 256 rows of few cells, 4 to 5 for the largest table, of 32004 numbers; then some 3 nanoseconds a step
- * (bench/reader/calls.c on an AMD EPYC). For an input of 9 terminals and 20 steps by JSON's table the check is three
- * quarters of the time.
+ * What a call costs: it checks the whole table first, each time: 0.34 microseconds for the 530 numbers of JSON's table,
+ * 1.4 for 256 rows of few cells, 7 to 26 for the largest table, of 32260 numbers (7 where no cell names a state, 21 where
+ * all but those of column 0 do, 26 where half of them do by chance); then some 3 nanoseconds a step
+ * (bench/reader/checks.sh and calls.c on an AMD EPYC). For an input of 9 terminals and 20 steps by JSON's table the check
+ * is six sevenths of the time.
  *
  * Every content of the table and the input, and every length, is answered: nothing is asked of them.
  * To the caller is left:

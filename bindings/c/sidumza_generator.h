@@ -14,7 +14,7 @@ extern "C" {
 #endif
 
 /* The least lengths of the areas. */
-enum { SIDUMZA_TABLE = 32004, SIDUMZA_WORDS = 8192, SIDUMZA_HALVES = 16384 };
+enum { SIDUMZA_TABLE = 32260, SIDUMZA_WORDS = 8192, SIDUMZA_HALVES = 16384 };
 
 /* The answer's number, out[0]. Places of `out` that an answer does not have are 0. */
 enum {
@@ -42,9 +42,9 @@ enum {
  *                    T+N-1; T is the start), P (productions), L (symbols of all right sides); P left
  *                    sides; P lengths of right sides; L symbols.
  * table, table_len   the table area. After a table it holds the table (see sidumza.h) and zeros behind it
- *                    over the first 32004 places; after 11 to 13 zeros over these.
- *                    The table has 4 + 2 * P + Q * (T + N) numbers (its first four are Q T N P). sidumza_parse ignores
- *                    what stands behind it, so that table_len may be passed on as it is.
+ *                    over the first 32260 places; after 11 to 13 zeros over these.
+ *                    The table has 4 + 2 * P + Q + Q * (T + N) numbers (its first four are Q T N P). sidumza_parse
+ *                    ignores what stands behind it, so that table_len may be passed on as it is.
  * words, words_len   a work area, 8192 places; zeros over these after a table and after 11 to 13.
  * halves, halves_len a work area, 16384 places; the same.
  * out                the answer, five numbers; all are written.

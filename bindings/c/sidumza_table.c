@@ -107,7 +107,7 @@ size_t sidumza_read_table(const char *text, size_t text_len, uint16_t *table, si
         return 0;
     productions = size[3];
     width = (size_t)size[1] + size[2];
-    all = 4 + 2 * productions + size[0] * width;
+    all = 4 + 2 * productions + size[0] + size[0] * width;
     if (all > table_len) {
         fault->line = p.line;
         fault->column = p.column;
@@ -118,7 +118,8 @@ size_t sidumza_read_table(const char *text, size_t text_len, uint16_t *table, si
     memcpy(to, size, sizeof size);
     to += 4;
     if (!word(&p, "left") || !numbers(&p, "a left side", productions, &to) || !word(&p, "length") ||
-        !numbers(&p, "a length", productions, &to))
+        !numbers(&p, "a length", productions, &to) || !word(&p, "entered") ||
+        !numbers(&p, "an entering symbol", size[0], &to))
         return 0;
     for (unsigned q = 0; q < size[0]; q++)
         if (!word(&p, "row") || !number(&p, "state", q, q, &state) || !word(&p, ":") ||
@@ -129,4 +130,13 @@ size_t sidumza_read_table(const char *text, size_t text_len, uint16_t *table, si
         return 0;
     }
     return all;
+}
+
+uint16_t sidumza_entered(const uint16_t *table, size_t table_len, size_t state)
+{
+    size_t first;
+    if (table_len < 4 || state >= table[0])
+        return 0;
+    first = 4 + 2 * (size_t)table[3];
+    return first + table[0] <= table_len ? table[first + state] : 0;
 }

@@ -1,4 +1,5 @@
-/* Compares the stored answers of Bison with those of the generator, cell for cell.
+/* Compares the stored answers of Bison with those of the generator, cell for cell, and
+   the entering symbol of each state with Bison's transitions to it.
 
        compare FILE..                                                        */
 
@@ -8,7 +9,7 @@
 
 #include "sidumza_generator.h"
 
-enum { TABLE = 32004, WORK = 8192, WORK2 = 16384, CARD = 772 };
+enum { TABLE = 32260, WORK = 8192, WORK2 = 16384, CARD = 772 };
 
 static uint16_t card[CARD], want[TABLE], table[TABLE];
 static uint64_t work[WORK];
@@ -84,13 +85,22 @@ static void finish(void) {
         }
 }
 
-/* `row STATE : CELLS`, a cell being column:value or first-last:value. */
+/* Keeps the symbol of a transition to a state; all transitions to it are on one symbol. */
+static void enter(uint16_t *entered, unsigned long state, unsigned long symbol) {
+    if (state == 0 || symbol == 0 || (entered[state] != 0 && entered[state] != symbol))
+        malformed("a transition to state 0, on the end marker, or on a second symbol");
+    entered[state] = (uint16_t)symbol;
+}
+
+/* `row STATE : CELLS`, a cell being column:value or first-last:value; a value below the number of
+   states is a transition. */
 static void row(const char *line) {
     char *at;
     unsigned long state = strtoul(line, &at, 10);
     if (strncmp(at, " :", 2) != 0 || state >= want[0])
         malformed(line);
-    uint16_t *cells = want + 4 + 2 * (size_t)want[3] + state * columns;
+    uint16_t *entered = want + 4 + 2 * (size_t)want[3];
+    uint16_t *cells = entered + want[0] + state * columns;
     for (at += 2; *at == ' '; ) {
         unsigned long first = strtoul(at, &at, 10), last = first;
         if (*at == '-')
@@ -98,8 +108,11 @@ static void row(const char *line) {
         if (*at != ':' || last >= columns)
             malformed(at);
         unsigned long value = strtoul(at + 1, &at, 10);
-        for (; first <= last; first++)
+        for (; first <= last; first++) {
             cells[first] = (uint16_t)value;
+            if (value < want[0])
+                enter(entered, value, first);
+        }
     }
     if (*at != '\n')
         malformed(at);

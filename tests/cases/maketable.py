@@ -13,6 +13,7 @@ A = "3 1 2 3 3 3 2 1 3 1 2"
 TABLE_A = """table 4 3 1 2
 left 3 3
 length 2 1
+entered 0 2 3 1
 row 0 : 0 0 1 2
 row 1 : 1025 1025 0 0
 row 2 : 4096 3 0 0
@@ -91,7 +92,7 @@ CASES = [
     ("13", "2 1 2 3 2 2 2 1 2 2 1", refused(13, 3, 1, 1, 1024)),
     ("13 with accept", "2 1 2 2 2 2 1 1 2 1", refused(13, 2, 0, 1024, 4096)),
     ("the smallest card", "1 1 1 0 1 0",
-     "table 2 1 1 1\nleft 1\nlength 0\nrow 0 : 1024 1\nrow 1 : 4096 0\n"),
+     "table 2 1 1 1\nleft 1\nlength 0\nentered 0 1\nrow 0 : 1024 1\nrow 1 : 4096 0\n"),
 ]
 
 
@@ -116,20 +117,25 @@ def blocks(paths):
 
 
 def table(card, rows):
+    """As printed. A state's entering symbol is the column of the transitions to it."""
     numbers = card.split()
     t, n, p = map(int, numbers[:3])
+    lines, entered = [], {0: 0}
     text = f"table {len(rows)} {t} {n} {p}\n"
     text += "left " + " ".join(numbers[4:4 + p]) + "\n"
     text += "length " + " ".join(numbers[4 + p:4 + 2 * p]) + "\n"
-    for state, row in enumerate(rows):
+    for row in rows:
         cells = ["0"] * (t + n)
         for cell in row:
             columns, value = cell.split(":")
             first, _, last = columns.partition("-")
             for column in range(int(first), int(last or first) + 1):
                 cells[column] = value
-        text += f"row {state} : " + " ".join(cells) + "\n"
-    return text
+                if int(value) < len(rows):
+                    assert entered.setdefault(int(value), column) == column
+        lines.append(" ".join(cells))
+    text += "entered " + " ".join(str(entered[state]) for state in range(len(rows))) + "\n"
+    return text + "".join(f"row {state} : {line}\n" for state, line in enumerate(lines))
 
 
 def main():

@@ -78,16 +78,20 @@ refused() {
     ! "$@" "$built/changed.txt"
 }
 
-# The programs that compare find a changed cell, refusal and answer.
+# The programs that compare find a changed cell, transition, entering symbol, refusal and answer.
 comparisons_fail() {
-    cell='0,/^row 0 /s/:1 /:2 /'
+    cell='0,/^row 1 /s/:1025$/:1024/'
+    transition='0,/^row 0 /s/ 2:1 / 1:1 /'
     refusal='0,/^refused 13/s/^refused 13 /refused 13 9/'
     refused "$cell" "$tests/bison/data/small.txt" "$built/compare" &&
+        refused "$transition" "$tests/bison/data/small.txt" "$built/compare" &&
         refused "$refusal" "$tests/bison/data/slow.txt" "$built/compare" &&
         refused '0,/^answer 0 5/s/^answer 0 5/answer 0 6/' "$tests/cases/cases.txt" "$built/cases" &&
+        refused '0,/^entered 0/s/^entered 0 1/entered 0 2/' "$tests/cases/cases.txt" "$built/cases" &&
         refused "$cell" "$tests/bison/data/small.txt" python3 "$tests/cases/maketable.py" "$built/release/maketable" &&
+        refused "$transition" "$tests/bison/data/small.txt" python3 "$tests/cases/maketable.py" "$built/release/maketable" &&
         refused "$refusal" "$tests/bison/data/slow.txt" python3 "$tests/cases/maketable.py" "$built/release/maketable" &&
-        echo "5 changed files found"
+        echo "8 changed files found"
 }
 
 all() {

@@ -1,8 +1,15 @@
 #!/bin/sh
 # Builds and runs the tests and examples of the parser: run.sh [ARCHIVE]
 # ARCHIVE is libparser_c.a, by default target/staticlib/libparser_c.a of the repository (rt staticlib parser_c).
+# STAND_IN=1 takes the reference of the generator's tests in its place, without the look at its symbols.
 # SEED and CASES set the differential test's seed and number of cases. Exit status 0: all passed.
 cd "$(dirname "$0")/../.." || exit 1
+if [ -n "${STAND_IN:-}" ]; then
+    CARGO_TARGET_DIR="$PWD/target/tests" cargo build --quiet --offline --release --manifest-path tests/reference/c/Cargo.toml || exit 1
+    mkdir -p target/stand-in
+    cp target/tests/release/libreference_c.a target/stand-in/libparser_c.a || exit 1
+    set -- target/stand-in/libparser_c.a
+fi
 archive=$(readlink -f "${1:-target/staticlib/libparser_c.a}")
 [ -f "$archive" ] || { echo "reader: no archive '$1': run rt staticlib parser_c first"; exit 1; }
 export SIDUMZA_LIB="${archive%/*}" CARGO_TARGET_DIR="$PWD/target/cargo"
@@ -62,7 +69,7 @@ no_archive() {
     grep "There is no $PWD/$out/nothing/libparser_c.a: make it with .rt staticlib parser_c. in the repository" "$out/refused"
 }
 
-part "symbols of the archive" symbols
+[ -n "${STAND_IN:-}" ] || part "symbols of the archive" symbols
 part "header" header
 part "build in C" build_c
 part "build in Rust" build_rust

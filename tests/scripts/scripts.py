@@ -360,7 +360,7 @@ end marker 0, terminals 1 to 2; start 3
 production 0 : 3 -> 3 1
 production 1 : 3 -> 2
 table 4 3 1 2
-The maker makes a table: 4 states, 3 terminals, 1 nonterminal, 2 productions; 24 numbers in all.
+The maker makes a table: 4 states, 3 terminals, 1 nonterminal, 2 productions; 28 numbers in all.
 """
 
 

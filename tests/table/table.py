@@ -52,9 +52,18 @@ def expected(text):
         if step == 5:
             q, t, n, p = table
             plan += ["`left`"] + [("a left side", 0, 65535)] * p + ["`length`"] + [("a length", 0, 65535)] * p
+            plan += ["`entered`"] + [("an entering symbol", 0, 65535)] * q
             for state in range(q):
                 plan += ["`row`", ("state", state, state), "`:`"] + [("a cell", 0, 65535)] * (t + n)
-    return fault("the end") if words[at][1] else " ".join(map(str, table))
+    return fault("the end") if words[at][1] else numbers(table)
+
+
+def numbers(table):
+    """The line for a table: its numbers, the entering symbols of its states and of one more, and the least length that
+    has that of the last state; the whole where it is 0."""
+    states, end = table[0], 4 + 2 * table[3] + table[0]
+    entered = table[end - states:end] + [0]
+    return f"{' '.join(map(str, table))}, entered {' '.join(map(str, entered))} by {end if entered[-2] else len(table)}"
 
 
 def texts(chance):
@@ -71,10 +80,17 @@ def texts(chance):
     for sizes in [(256, 64, 60, 128), (257, 1, 1, 1), (1, 65, 1, 1), (1, 1, 61, 1), (1, 1, 1, 129), (1, 1, 1, 1)]:
         q, t, n, p = sizes
         rows = "".join(f"row {s} :" + " 0" * (t + n) + "\n" for s in range(q))
-        yield (f"table {q} {t} {n} {p}\nleft" + " 1" * p + "\nlength" + " 1" * p + "\n" + rows).encode()
+        entered = "\nentered" + " 0" * (q - 1) + " 123\n"
+        yield (f"table {q} {t} {n} {p}\nleft" + " 1" * p + "\nlength" + " 1" * p + entered + rows).encode()
+    # tables without entering symbols, and with the line at another place
+    for text in good[:12]:
+        lines = text.splitlines(keepends=True)
+        yield b"".join(lines[:3] + lines[4:])
+        yield b"".join(lines[:2] + [lines[3], lines[2]] + lines[4:])
+        yield b"".join(lines[:3] + lines[4:] + [lines[3]])
     pieces = [b"", b" ", b"\n", b"\t", b"\r\n", b"0", b"00", b"7", b"65535", b"65536", b"4294967297", b"18446744073709551617",
               b"-1", b"+1", b"x", b"\0", b"\xff", b"\x7f", b"row", b"row 0 :", b"table", b"left", b":", b"a word that is long",
-              b"averylongwordthatiscut", b"\f", b"1.0", b"0x1", b"1e1", b"length"]
+              b"averylongwordthatiscut", b"\f", b"1.0", b"0x1", b"1e1", b"length", b"entered"]
     for _ in range(4000):
         text = bytearray(chance.choice(good))
         for _ in range(chance.randint(1, 3)):
@@ -132,12 +148,22 @@ FAULTS = [
     (C, "if (p.len > 0)", "if (0)"),
     (C, "p->at < p->end && blank(*p->at)", "blank(*p->at)"),
     (C, "p->len == strlen(w) && ", ""),
+    (C, '!word(&p, "entered")', "0"),
+    (C, '"an entering symbol", size[0], &to', '"an entering symbol", size[0] - 1, &to'),
+    (C, "size[0] + size[0] * width", "size[0] * width"),
+    (C, "state >= table[0]", "state > table[0]"),
+    (C, "first = 4 + 2 * (size_t)table[3]", "first = 4 + (size_t)table[3]"),
+    (C, "first + table[0] <= table_len", "first + table[0] < table_len"),
     (RUST, "self.column = 1;", "self.column = 0;"),
     (RUST, r" | b'\r'", ""),
     (RUST, "digits && ", ""),
     (RUST, ".min(1 << 16)", ""),
     (RUST, '"the number of productions", 1, 128', '"the number of productions", 1, 129'),
     (RUST, "if place.word.is_empty()", "if true"),
+    (RUST, 'place.word("entered")?;', ""),
+    (RUST, '"an entering symbol", states', '"an entering symbol", states - 1'),
+    (RUST, "first + usize::from(*states)", "first + usize::from(*states) - 1"),
+    (RUST, "let first = 4 + 2 *", "let first = 4 +"),
     (RUST, "place.number(\"state\", state, state)?", "place.number(\"state\", 0, 255)?"),
 ]
 
@@ -156,10 +182,10 @@ def main():
             bad += 1
             print(f"{program.name}: {found}")
     # an area that is too short for the table
-    subprocess.run(["gcc", "-DREAD_AREA=23", "-fsanitize=address,undefined", "-fno-sanitize-recover=all", f"-I{C.parent}",
+    subprocess.run(["gcc", "-DREAD_AREA=27", "-fsanitize=address,undefined", "-fno-sanitize-recover=all", f"-I{C.parent}",
                     HERE / "read.c", C, "-o", OUT / "short-c"], check=True)
     text = (ROOT / "examples/a.table").read_bytes()
-    found = differs(OUT / "short-c", [text], ["line 2, column 1: the table has 24 numbers, the area only 23"])
+    found = differs(OUT / "short-c", [text], ["line 2, column 1: the table has 28 numbers, the area only 27"])
     if found:
         bad += 1
         print(f"short-c: {found}")

@@ -6,7 +6,7 @@
 use std::fmt;
 
 /// The least lengths of the three areas.
-pub const TABLE: usize = 32_004;
+pub const TABLE: usize = 32_260;
 pub const WORDS: usize = 8_192;
 pub const HALVES: usize = 16_384;
 
@@ -130,7 +130,7 @@ pub fn generate(card: &[u16], table: &mut [u16], words: &mut [u64], halves: &mut
     Err(match out[0] {
         0 => {
             let [q, t, n, p] = [0, 1, 2, 3].map(|place| usize::from(table[place]));
-            return Ok(4 + 2 * p + q * (t + n));
+            return Ok(4 + 2 * p + q + q * (t + n));
         }
         1 => Refusal::TableAreaShort,
         2 => Refusal::WordsShort,

@@ -4,16 +4,16 @@
 //! lengths, areas that do not overlap) are met by the slices of [`parse`]. `bindings/c/sidumza.h`
 //! describes the table and the areas, and says how long they should be.
 //!
-//! [`read_table`] reads a table from the text that `maketable` prints. With the feature `generator` the module
-//! [`generator`] makes tables; it needs the archive `libgenerator_c.a`. The feature `parser`, on where nothing else is
-//! said, is the parser.
+//! [`read_table`] reads a table from the text that `maketable` prints; [`entered`] gives the symbols under which its
+//! states are entered. With the feature `generator` the module [`generator`] makes tables; it needs the archive
+//! `libgenerator_c.a`. The feature `parser`, on where nothing else is said, is the parser.
 
 #[cfg(feature = "generator")]
 pub mod generator;
 mod table;
 mod words;
 
-pub use table::{read_table, TableFault};
+pub use table::{entered, read_table, TableFault};
 
 /// Why a call is refused. A refusal changes neither area.
 #[derive(Clone, Copy, Debug, PartialEq, Eq)]
@@ -32,6 +32,9 @@ pub enum Refusal {
     BadTerminal,
     /// 27: the stack area is empty.
     NoStack,
+    /// 44: an entering symbol that is at least T + N, or not 0 for state 0, or other than the column of a cell that
+    /// names the state. It is tested between 24 and 25.
+    BadEntered,
 }
 
 /// What a parse did until its end.
@@ -50,7 +53,7 @@ pub struct Counts {
 pub enum Answer {
     /// 0: the input is accepted.
     Accepted { counts: Counts },
-    /// 21 to 27.
+    /// 21 to 27 or 44.
     Refused { refusal: Refusal },
     /// 31: no action for the terminal at `position`. Bit m of `expected` is set for each expected
     /// terminal m (0: the end), `expected_count` of them.
@@ -141,6 +144,7 @@ fn answer(out: [u64; 7]) -> Answer {
         25 => refused(Refusal::InputLong),
         26 => refused(Refusal::BadTerminal),
         27 => refused(Refusal::NoStack),
+        44 => refused(Refusal::BadEntered),
         31 => Answer::NoAction { position: out[4] as usize, expected: out[5], expected_count: out[6] as u32, counts },
         32 => Answer::StepLimit { counts },
         33 => Answer::StackFull { counts },

@@ -1,4 +1,4 @@
-//! Reads a table back from the text that the program `maketable` prints.
+//! Reads a table back from the text that the program `maketable` prints, and finds the entering symbols in a table.
 
 use std::fmt;
 
@@ -22,8 +22,9 @@ impl std::error::Error for TableFault {}
 /// The numbers of a table from its text, for [`parse`](crate::parse).
 ///
 /// Between words and numbers may stand any number of blanks, tabs and line ends (also those with a carriage return),
-/// and numbers may have leading zeros. Sizes outside their limits are faults here; a left side, length or cell with a
-/// wrong value is refused by the parser (23, 24).
+/// and numbers may have leading zeros. Sizes outside their limits are faults here, and so is a text without `entered`,
+/// as it was printed before tables had entering symbols. A left side, length, cell or entering symbol with a wrong value
+/// is refused by the parser (23, 24, 44).
 pub fn read_table(text: &[u8]) -> Result<Vec<u16>, TableFault> {
     let mut place = Place { text, at: 0, line: 1, column: 1, word: b"" };
     place.next();
@@ -39,6 +40,8 @@ pub fn read_table(text: &[u8]) -> Result<Vec<u16>, TableFault> {
     place.numbers("a left side", productions, &mut table)?;
     place.word("length")?;
     place.numbers("a length", productions, &mut table)?;
+    place.word("entered")?;
+    place.numbers("an entering symbol", states, &mut table)?;
     for state in 0..states {
         place.word("row")?;
         place.number("state", state, state)?;
@@ -50,6 +53,15 @@ pub fn read_table(text: &[u8]) -> Result<Vec<u16>, TableFault> {
     } else {
         Err(place.wrong("the end"))
     }
+}
+
+/// The symbol under which each state of a table is entered: below T a terminal, from T on a nonterminal; 0 for state 0,
+/// which nothing enters. Those of the states above state 0 on the stack area after an end, from the bottom up, are the
+/// symbols that the input was read as so far. Empty where the table ends before its entering symbols do.
+pub fn entered(table: &[u16]) -> &[u16] {
+    let [states, _, _, productions, ..] = table else { return &[] };
+    let first = 4 + 2 * usize::from(*productions);
+    table.get(first..first + usize::from(*states)).unwrap_or(&[])
 }
 
 /// A place in the text, and the word there.

@@ -4,7 +4,7 @@ use crate::{Answer, Refusal};
 use std::fmt;
 
 impl Refusal {
-    /// The number of the refusal, 21 to 27.
+    /// The number of the refusal, 21 to 27 or 44.
     pub fn number(self) -> u32 {
         match self {
             Refusal::TableShort => 21,
@@ -14,6 +14,7 @@ impl Refusal {
             Refusal::InputLong => 25,
             Refusal::BadTerminal => 26,
             Refusal::NoStack => 27,
+            Refusal::BadEntered => 44,
         }
     }
 }
@@ -28,6 +29,7 @@ impl fmt::Display for Refusal {
             Refusal::InputLong => "input too long",
             Refusal::BadTerminal => "no such terminal",
             Refusal::NoStack => "no stack area",
+            Refusal::BadEntered => "bad entering symbol in the table",
         };
         write!(f, "refused {}: {words}", self.number())
     }
@@ -36,7 +38,7 @@ impl fmt::Display for Refusal {
 impl std::error::Error for Refusal {}
 
 impl Answer {
-    /// The number of the answer: 0, 21 to 27 or 31 to 35.
+    /// The number of the answer: 0, 21 to 27, 31 to 35 or 44.
     pub fn number(self) -> u32 {
         match self {
             Answer::Accepted { .. } => 0,

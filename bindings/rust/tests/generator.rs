@@ -1,7 +1,7 @@
 //! The binding of the generator, and with it the way card, table, text, table, parse.
 
 use sidumza::generator::{generate, table_of, Refusal, HALVES, TABLE, WORDS};
-use sidumza::{parse, read_table, Answer};
+use sidumza::{entered, parse, read_table, Answer};
 use std::collections::BTreeSet;
 
 const CARD_A: &str = "3 1 2 3 3 3 2 1 3 1 2";
@@ -15,10 +15,12 @@ fn line<T: ToString>(numbers: &[T]) -> String {
 }
 
 fn printed(table: &[u16]) -> String {
-    let (p, width) = (table[3] as usize, (table[1] + table[2]) as usize);
+    let (q, p, width) = (table[0] as usize, table[3] as usize, (table[1] + table[2]) as usize);
     let (left, rest) = table[4..].split_at(p);
-    let (length, cells) = rest.split_at(p);
+    let (length, rest) = rest.split_at(p);
+    let (entered, cells) = rest.split_at(q);
     let mut text = format!("table{}\nleft{}\nlength{}\n", line(&table[..4]), line(left), line(length));
+    text += &format!("entered{}\n", line(entered));
     for (state, row) in cells.chunks(width).enumerate() {
         text += &format!("row {state} :{}\n", line(row));
     }
@@ -71,7 +73,7 @@ fn every_refusal_has_its_number_and_words() {
     }
     let card = numbers(CARD_A);
     for (lengths, words) in [
-        ([TABLE - 1, WORDS, HALVES], "refused 1: table area under 32004 numbers"),
+        ([TABLE - 1, WORDS, HALVES], "refused 1: table area under 32260 numbers"),
         ([TABLE, WORDS - 1, HALVES], "refused 2: first work area under 8192 numbers"),
         ([TABLE, WORDS, HALVES - 1], "refused 3: second work area under 16384 numbers"),
     ] {
@@ -88,10 +90,25 @@ fn areas_are_left_as_the_header_says() {
     let (mut table, mut words, mut halves) = (vec![7; TABLE + 1], vec![7; WORDS + 1], vec![7; HALVES + 1]);
     let length = generate(&numbers(CARD_A), &mut table, &mut words, &mut halves).expect("a table");
     assert_eq!(table[..length], table_of(&numbers(CARD_A)).expect("a table"));
-    assert_eq!(length, 24);
+    assert_eq!(length, 28);
     assert!(table[length..TABLE].iter().all(|&x| x == 0) && table[TABLE] == 7);
     assert!(words[..WORDS].iter().all(|&x| x == 0) && words[WORDS] == 7);
     assert!(halves[..HALVES].iter().all(|&x| x == 0) && halves[HALVES] == 7);
+}
+
+#[test]
+fn states_have_their_entering_symbols() {
+    let table = table_of(&numbers(CARD_A)).expect("a table");
+    assert_eq!(entered(&table), [0, 2, 3, 1]);
+    assert_eq!(entered(&table[..12]), [0, 2, 3, 1]);
+    for short in 0..12 {
+        assert!(entered(&table[..short]).is_empty(), "{short} numbers");
+    }
+    let mut stack = [0; 9];
+    let answer = parse(&table, &[2, 1, 2], &mut stack, &mut [0; 9], 9);
+    let Answer::NoAction { counts, .. } = answer else { panic!("{answer}") };
+    let read: Vec<u16> = stack[1..counts.depth].iter().map(|&q| entered(&table)[q as usize]).collect();
+    assert_eq!(read, [3, 1]);
 }
 
 #[test]
@@ -145,9 +162,10 @@ fn answers_have_words() {
     for (table, number, words) in [
         (&[][..], 21, "refused 21: table too short"),
         (&[0, 1, 1, 1], 22, "refused 22: bad sizes in the table"),
-        (&[1, 1, 1, 1, 0, 1, 1024, 0], 23, "refused 23: bad production in the table"),
-        (&[1, 1, 1, 1, 1, 1, 1, 0], 24, "refused 24: bad cell in the table"),
-        (&[1, 1, 1, 1, 1, 1, 1024, 0], 35, "stopped 35: steps 0, stack 1, listed 0"),
+        (&[1, 1, 1, 1, 0, 1, 0, 1024, 0], 23, "refused 23: bad production in the table"),
+        (&[1, 1, 1, 1, 1, 1, 0, 1, 0], 24, "refused 24: bad cell in the table"),
+        (&[1, 1, 1, 1, 1, 1, 1, 1024, 0], 44, "refused 44: bad entering symbol in the table"),
+        (&[1, 1, 1, 1, 1, 1, 0, 1024, 0], 35, "stopped 35: steps 0, stack 1, listed 0"),
     ] {
         let answer = foreign(table);
         assert_eq!((answer.number(), answer.to_string().as_str()), (number, words));

@@ -1,4 +1,4 @@
--- The maker's rows: one behind the other, 256 of them within the table area, and where the table has its own.
+-- The maker's working rows: one behind the other, 256 of them within the table area, and as many places below the table's as there are states.
 use Prim.Native.Nat.{ℕ, _+_, _*_, _≤_, _<_}
 use mathlib.Core.Path.{_≡_, refl}
 use mathlib.Core.List.{List}
@@ -16,10 +16,10 @@ pub row-is : (c : List ℕ) (q : ℕ) {t n h : ℕ} → t ≡ terminals c → n 
 unfolding rowOf
 row-is c q et en eh = rw (et, en, eh) refl
 
--- the maker's rows stand where the table has them
-pub row-table : (c : List ℕ) (q : ℕ) → rowOf c q ≡ rowAt (productions c) (terminals c + nonterminals c) q
+-- a table of n states has its rows n places further up
+pub row-table : (c : List ℕ) (n q : ℕ) → rowAt (productions c) n (terminals c + nonterminals c) q ≡ rowOf c q + n
 unfolding rowOf
-row-table c q = refl
+row-table c n q = omega arith
 
 pub row-header : (c : List ℕ) (q : ℕ) → headerSize (productions c) ≤ rowOf c q
 unfolding rowOf
@@ -43,3 +43,10 @@ row-most c f q n h =
 
 pub row-fits : (c : List ℕ) → WellFormed c → (q : ℕ) → q < 256 → rowOf c q + (terminals c + nonterminals c) ≤ tableSize
 row-fits c f q h = let e = row-mono c q 256 h in let m = row-most c f 256 256 (omega arith) in omega arith
+
+pub row-small : (c : List ℕ) → WellFormed c → (q : ℕ) → q ≤ 256 → rowOf c q ≤ tableSize
+row-small c f q h = let m = row-most c f q 256 h in omega arith
+
+-- with as many entering symbols as rows in front of them
+pub rows-fit : (c : List ℕ) → WellFormed c → (n : ℕ) → n ≤ 256 → rowOf c n + n ≤ tableSize
+rows-fit c f n h = let m = row-most c f n 256 h in omega arith

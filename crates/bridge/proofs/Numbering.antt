@@ -16,32 +16,11 @@ use Rattle.lr.proofs.Runs
 use Rattle.lr.proofs.ItemLaws.{AllProductive, all-productive, snoc-last, not-snoc, after-positive}
 use Rattle.lr.proofs.Automaton.{Automaton, walk-snoc}
 use Rattle.lr.proofs.Paths.{Has, symbol-below, state-automaton}
+use Rattle.lr.specs.Cells.{Entered}
+use Rattle.lr.proofs.Entering.{move-enters, one-entered}
 use Rattle.lr.proofs.RelationLaws.{went}
 use Rattle.transitions.specs.Next.{Numbered}
 use Rattle.bridge.specs.Premises.{Stated}
-use Rattle.bridge.proofs.RightSides.{first-at}
-
-module _ (g : Grammar) where
-  -- the set behind a path that ends in a symbol has an item with a moved dot
-  kernel : {δ : List ℕ} {r d a : ℕ} → Canonical g δ r d a → (γ : List ℕ) (x : ℕ) → δ ≡ γ ++ x ∷ [] → (s : ℕ) × (i : ℕ) × Items.Item g δ s (suc i)
-  kernel Canonical.start γ x e = absurd (not-snoc γ x e)
-  kernel (Canonical.close i k h fi) γ x e = kernel i γ x e
-  kernel (Canonical.goto {r} {d} i k) γ x e = (r, d, in-core (Canonical.goto i k))
-
-  -- and the dot was moved over that symbol
-  moved-over : {δ : List ℕ} {r d i a : ℕ} → Canonical g δ r d a → d ≡ suc i → (γ : List ℕ) (x : ℕ) → δ ≡ γ ++ x ∷ [] → getD (g.right r) i 0 ≡ x
-  moved-over Canonical.start k γ x e = absurd (omega arith)
-  moved-over (Canonical.close j k h fi) n γ x e = absurd (omega arith)
-  moved-over {i} (Canonical.goto {γ = γ′} {r = r} {d = d} {x = y} j k) n γ x e =
-      let o : d ≡ i = omega arith in
-      rw (← o) (first-at d (g.right r) k) ∙ snoc-last γ′ γ y x e .1
-
-  -- so sets with one core are entered by one symbol
-  one-symbol : (γ δ : List ℕ) (x y : ℕ) → Items.Viable g (γ ++ x ∷ []) → Items.SameCore g (γ ++ x ∷ []) (δ ++ y ∷ []) → x ≡ y
-  one-symbol γ δ x y (Items.by-item (Items.with-lookahead _ i)) s = let t = kernel (by-path i) γ x refl in go (t .2) (s .to (t .0) (suc (t .1)) (t .2))
-    where
-      go : {r d : ℕ} → Items.Item g (γ ++ x ∷ []) r (suc d) → Items.Item g (δ ++ y ∷ []) r (suc d) → x ≡ y
-      go (Items.with-lookahead _ i) (Items.with-lookahead _ j) = sym (moved-over (by-path i) refl γ x refl) ∙ moved-over (by-path j) refl δ y refl
 
 module _ {c : List ℕ} {n : ℕ} {next : ℕ → ℕ → ℕ} (s : Stated c n next) where
   pub card-formed : Formed (grammarOf c)
@@ -70,14 +49,10 @@ module _ {c : List ℕ} {n : ℕ} {next : ℕ → ℕ → ℕ} (s : Stated c n n
       go (no nz) = automaton .next-below (s .inside p x nz)
 
   entered-by-one : (p x q y : ℕ) → next p x ≢ 0 → next p x ≡ next q y → x ≡ y
-  entered-by-one p x q y nz e =
-      let a = s .states .every p (s .inside p x nz) in
-      let b = s .states .every q (s .inside q y (rw (← e) nz)) in
-      let v = s .states .moved (a .1) x .0 (rw (a .2) nz) in
-      let u = s .states .moved (b .1) y .0 (rw (b .2, ← e) nz) in
-      let same : walk next 0 (a .0 ++ x ∷ []) ≡ walk next 0 (b .0 ++ y ∷ []) =
-      walk-snoc next 0 (a .0) x ∙ ap (λ (i : ℕ). next i x) (a .2) ∙ e ∙ sym (walk-snoc next 0 (b .0) y ∙ ap (λ (i : ℕ). next i y) (b .2)) in
-      one-symbol (grammarOf c) (a .0) (b .0) x y v (s .states .merged v u .0 same)
+  entered-by-one p x q y nz e = one-entered (grammarOf c) (s .states) (enters p x nz) (rw (← e) at (enters q y (rw (← e) nz)))
+    where
+      enters : (p x : ℕ) → next p x ≢ 0 → Entered (grammarOf c) next (next p x) x
+      enters p x z = move-enters (grammarOf c) (s .states) p x (s .inside p x z) z
 
   pub numbered : Numbered c n next
   numbered = record {

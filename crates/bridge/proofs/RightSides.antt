@@ -10,13 +10,9 @@ use native.Mathlib.Decide.{ℕ-discrete}
 use Rattle.sets.proofs.ListLaws.{each-at}
 use Rattle.grammar.specs.Card.{productions, lengthOf, symbolOf, startOf, rightOf}
 use Rattle.grammar.proofs.CardLaws.{right-is, right-length}
-use Rattle.lr.proofs.ItemLaws.{drop-next}
+use Rattle.lr.proofs.ItemLaws.{drop-next, first-at}
 use Rattle.grammar.proofs.Closed.{All, none, more}
 use Rattle.transitions.specs.Occurrences.{symbolAt}
-
--- what begins at the dot stands at the dot
-pub first-at : (d : ℕ) (l : List ℕ) {x : ℕ} {β : List ℕ} → drop d l ≡ x ∷ β → getD l d 0 ≡ x
-first-at d l e = ap (λ (i : ℕ). getD l i 0) (sym (add-zero d)) ∙ sym (getD-drop d l 0 0) ∙ ap (λ (k : List ℕ). getD k 0 0) e
 
 module _ (c : List ℕ) (r : ℕ) (h : r < productions c) where
   pub right-symbol : (d : ℕ) → d < lengthOf c r → getD (rightOf c r) d 0 ≡ symbolAt c r d

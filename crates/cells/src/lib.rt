@@ -1,4 +1,4 @@
-// The cells of one state from its words, the header of a table, and the zeroing of areas.
+// The cells of one state from its words, what stands in front of a table's rows (header, entering symbols), and the zeroing of areas.
 ghost use mathlib.Core.Path.{_≡_};
 ghost use mathlib.Core.Bool.{true};
 ghost use mathlib.Core.Logic.{_↔_, _≢_};
@@ -11,7 +11,7 @@ ghost use Rattle.tables.specs.Conflicts.{Lowest};
 ghost use Rattle.cells.specs.Words.{Numbers, Live, Next, Two, Sought, Put, Row};
 ghost use Rattle.sets.specs.Lists.{covered};
 ghost use Rattle.areas.specs.Areas.{tableSize, rowOf};
-ghost use Rattle.cells.specs.Areas.{tableArea, Arrays, Header};
+ghost use Rattle.cells.specs.Areas.{tableArea, Raised, Copied, Inserted, Arrays, Header};
 
 // The first production from a number on that is in the set `live`, or 128 where there is none.
 pub fn next(live: [u64; 2], start: usize) -> usize
@@ -141,13 +141,50 @@ fn header(c: &[u16], t: &mut [u16], n: u16)
     arrays(c, t, p);
 }
 
-// Makes a table of n rows that stand in the table area, where the table has them: the header in front, zeros behind.
-pub fn finish(c: &[u16], t: &mut [u16], n: u16)
-    requires { ⌜ (0 < terminalsOf (now c)) × (rowOf (now c) n ≤ tableSize) × (tableSize ≤ length (now t)) ⌝ }
-    ensures { λ _. ⌜ now (t .exit) ≡ tableArea (now (c .entry)) n (now (t .entry)) ⌝ }
+// Moves the numbers at the places from a to b up by k, the last one first.
+fn raise(t: &mut [u16], a: usize, b: usize, k: usize)
+    requires { ⌜ (a ≤ b) × (b + k ≤ length (now t)) ⌝ }
+    ensures { λ _. ⌜ Raised a b k (now (t .entry)) (now (t .exit)) ⌝ }
 {
+    let mut i = b;
+    while a < i {
+        i -= 1;
+        t[i + k] = t[i];
+    }
+}
+
+// Writes the first n numbers of e from place a on.
+fn copy(t: &mut [u16], a: usize, e: &[u16; 256], n: usize)
+    requires { ⌜ (n ≤ 256) × (a + n ≤ length (now t)) ⌝ }
+    ensures { λ _. ⌜ Copied a n (now (e .entry)) (now (t .entry)) (now (t .exit)) ⌝ }
+{
+    let mut q: usize = 0;
+    while q < n {
+        t[a + q] = e[q];
+        q += 1;
+    }
+}
+
+// Moves the working rows of n states to where the table has them, and writes the entering symbols in front. Gives the end of the rows.
+fn insert(c: &[u16], t: &mut [u16], e: &[u16; 256], n: usize) -> usize
+    requires { ⌜ (n ≤ 256) × (rowOf (now c) n + n ≤ tableSize) × (tableSize ≤ length (now t)) ⌝ }
+    ensures { λ r. ⌜ (r ≡ rowOf (now (c .entry)) n + n) × Inserted (now (c .entry)) n (now (e .entry)) (now (t .entry)) (now (t .exit)) ⌝ }
+{
+    let first = areas::row(c, 0);
+    let end = areas::row(c, n);
+    raise(t, first, end, n);
+    copy(t, first, e, n);
+    end + n
+}
+
+// Makes the table of n states whose working rows stand in the table area and whose entering symbols are e: the header in front, zeros behind.
+pub fn finish(c: &[u16], t: &mut [u16], e: &[u16; 256], n: u16)
+    requires { ⌜ (0 < terminalsOf (now c)) × (n ≤ 256) × (rowOf (now c) n + n ≤ tableSize) × (tableSize ≤ length (now t)) ⌝ }
+    ensures { λ _. ⌜ now (t .exit) ≡ tableArea (now (c .entry)) n (now (e .entry)) (now (t .entry)) ⌝ }
+{
+    let end = insert(c, t, e, card::wide(n));
     header(c, t, n);
-    clear16(t, areas::row(c, card::wide(n)), areas::TABLE);
+    clear16(t, end, areas::TABLE);
 }
 
 // Zeros the places from a to k, of numbers of each width.

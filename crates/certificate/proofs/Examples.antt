@@ -1,8 +1,8 @@
 -- The claims are not empty: card A gets its table, two inputs are read with it, and this is what demand 3 says of them.
 use mathlib.Core.Path.{_≡_, refl}
 use mathlib.Core.List.{List, [], _∷_, _++_}
-use mathlib.Core.Logic.{_⊎_, inl, inr}
-use Prim.Native.Nat.{ℕ}
+use mathlib.Core.Logic.{_≢_, _⊎_, inl, inr}
+use Prim.Native.Nat.{ℕ, _<_}
 use native.Mathlib.Omega.{arith}
 use lib.Count.{ones, onesIn}
 use Rattle.sets.specs.Bit.{bit}
@@ -12,11 +12,11 @@ use Rattle.grammar.specs.Prefix.{ErrorPosition}
 use Rattle.grammar.specs.Card
 use Rattle.grammar.specs.Card.{grammarOf, symbols, symbolOf, startOf, rightOf, isNonterminal, isSymbol, leftsOk, rightsOk, formFault}
 use Rattle.tables.specs.Layout
-use Rattle.tables.specs.Layout.{width, cellOf, sizeOf, build}
+use Rattle.tables.specs.Layout.{width, enteredOf, cellOf, sizeOf, build}
 use Rattle.machine.specs.Report.{ended, wrong-at, Reading}
 use Rattle.machine.specs.ComputedRun.{popped, topOf, actionOf, shifted, reducedTo, reduced, movedBy, after, run, start, expectedWord, wrongAt, reportOf, reading}
 use Rattle.machine.specs.Checks
-use Rattle.machine.specs.Checks.{productionOk, terminalCellOk, cellOk, rowOk, productionsOk, cellsOk, terminalOk, inputOk, refusalOf}
+use Rattle.machine.specs.Checks.{productionOk, terminalCellOk, cellOk, rowOk, productionsOk, cellsOk, entryOk, namesOk, rowNamesOk, entriesOk, terminalOk, inputOk, tableRefusal, inputRefusal, areaRefusal, refusalOf, Refusal, of-table, table-short, sizes-wrong, production-wrong, cell-wrong, entry-wrong, input-long, terminal-wrong, no-stack}
 use Rattle.claim.specs.Claim.{Demand3, Settled}
 use Rattle.lalr.specs.ComputedNonterminals.{nullables, productive, reachable, uselessNonterminal, firsts}
 use Rattle.lalr.specs.ComputedStates
@@ -34,12 +34,23 @@ a-made = refl
 abbrev read : List ℕ → Reading
 read input = reading (tableOf cardA ++ 0 ∷ []) input (9 ∷ 9 ∷ 9 ∷ 9 ∷ []) (9 ∷ 9 ∷ []) 5
 
+-- 0 and 31 are no refusals
+taken : {n : ℕ} → Refusal n → (0 < n) × (n ≢ 31)
+taken (of-table table-short) = (omega arith, λ e. omega arith)
+taken (of-table sizes-wrong) = (omega arith, λ e. omega arith)
+taken (of-table production-wrong) = (omega arith, λ e. omega arith)
+taken (of-table cell-wrong) = (omega arith, λ e. omega arith)
+taken (of-table entry-wrong) = (omega arith, λ e. omega arith)
+taken input-long = (omega arith, λ e. omega arith)
+taken terminal-wrong = (omega arith, λ e. omega arith)
+taken no-stack = (omega arith, λ e. omega arith)
+
 settled : {n : ℕ} → (n ≡ 0) ⊎ (n ≡ 31) → Settled n
-settled (inl e) = record { taken = λ h k. omega arith; steps-left = λ z. omega arith; stack-left = λ z. omega arith; list-left = λ z. omega arith }
-settled (inr e) = record { taken = λ h k. omega arith; steps-left = λ z. omega arith; stack-left = λ z. omega arith; list-left = λ z. omega arith }
+settled (inl e) = record { taken = λ h. omega (arith, taken h .0); steps-left = λ z. omega arith; stack-left = λ z. omega arith; list-left = λ z. omega arith }
+settled (inr e) = record { taken = λ h. taken h .1 e; steps-left = λ z. omega arith; stack-left = λ z. omega arith; list-left = λ z. omega arith }
 
 good-claim : Demand3 (grammarOf cardA) (2 ∷ 1 ∷ []) (record { report = ended 0 5 2 2; stack = 0 ∷ 2 ∷ 0 ∷ 9 ∷ []; list = 1 ∷ 0 ∷ [] })
-unfolding bit allBelow between Card.terminals Card.nonterminals Card.productions symbols Card.leftOf Card.lengthOf symbolOf startOf rightOf nullables productive reachable uselessNonterminal firsts ComputedStates.states facts closure advance goto ComputedStates.start tableOf build Layout.states Layout.terminals Layout.nonterminals Layout.productions width Layout.leftOf Layout.lengthOf cellOf sizeOf popped topOf actionOf shifted reducedTo reduced movedBy after run start ones onesIn expectedWord wrongAt reportOf Checks.sizesOk productionOk terminalCellOk cellOk rowOk productionsOk cellsOk terminalOk inputOk refusalOf reading
+unfolding bit allBelow between Card.terminals Card.nonterminals Card.productions symbols Card.leftOf Card.lengthOf symbolOf startOf rightOf nullables productive reachable uselessNonterminal firsts ComputedStates.states facts closure advance goto ComputedStates.start tableOf build Layout.states Layout.terminals Layout.nonterminals Layout.productions width Layout.leftOf Layout.lengthOf enteredOf cellOf sizeOf popped topOf actionOf shifted reducedTo reduced movedBy after run start ones onesIn expectedWord wrongAt reportOf Checks.sizesOk productionOk terminalCellOk cellOk rowOk productionsOk cellsOk entryOk namesOk rowNamesOk entriesOk terminalOk inputOk tableRefusal inputRefusal areaRefusal refusalOf reading
 good-claim = demand-3 cardA a-made (0 ∷ []) (2 ∷ 1 ∷ []) (9 ∷ 9 ∷ 9 ∷ 9 ∷ []) (9 ∷ 9 ∷ []) 5
 
 -- 2 1 is a sentence, and its one rightmost derivation is by the productions 0 1
@@ -51,7 +62,7 @@ unfolding Card.terminals
 good-derivation = good-claim .derivation refl
 
 bad-claim : Demand3 (grammarOf cardA) (2 ∷ 2 ∷ []) (record { report = wrong-at 1 2 0 1 3 2; stack = 0 ∷ 1 ∷ 9 ∷ 9 ∷ []; list = 9 ∷ 9 ∷ [] })
-unfolding bit allBelow between Card.terminals Card.nonterminals Card.productions symbols Card.leftOf Card.lengthOf symbolOf startOf rightOf nullables productive reachable uselessNonterminal firsts ComputedStates.states facts closure advance goto ComputedStates.start tableOf build Layout.states Layout.terminals Layout.nonterminals Layout.productions width Layout.leftOf Layout.lengthOf cellOf sizeOf popped topOf actionOf shifted reducedTo reduced movedBy after run start ones onesIn expectedWord wrongAt reportOf Checks.sizesOk productionOk terminalCellOk cellOk rowOk productionsOk cellsOk terminalOk inputOk refusalOf reading
+unfolding bit allBelow between Card.terminals Card.nonterminals Card.productions symbols Card.leftOf Card.lengthOf symbolOf startOf rightOf nullables productive reachable uselessNonterminal firsts ComputedStates.states facts closure advance goto ComputedStates.start tableOf build Layout.states Layout.terminals Layout.nonterminals Layout.productions width Layout.leftOf Layout.lengthOf enteredOf cellOf sizeOf popped topOf actionOf shifted reducedTo reduced movedBy after run start ones onesIn expectedWord wrongAt reportOf Checks.sizesOk productionOk terminalCellOk cellOk rowOk productionsOk cellsOk entryOk namesOk rowNamesOk entriesOk terminalOk inputOk tableRefusal inputRefusal areaRefusal refusalOf reading
 bad-claim = demand-3 cardA a-made (0 ∷ []) (2 ∷ 2 ∷ []) (9 ∷ 9 ∷ 9 ∷ 9 ∷ []) (9 ∷ 9 ∷ []) 5
 
 -- 2 2 goes wrong at its second terminal

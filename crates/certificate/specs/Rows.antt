@@ -37,9 +37,9 @@ cardG = 6 ∷ 3 ∷ 6 ∷ 14 ∷ 6 ∷ 6 ∷ 6 ∷ 6 ∷ 7 ∷ 8 ∷ 3 ∷ 3 ∷
 abbrev pub cardH : List ℕ
 cardH = 6 ∷ 3 ∷ 6 ∷ 14 ∷ 6 ∷ 6 ∷ 6 ∷ 6 ∷ 7 ∷ 8 ∷ 3 ∷ 3 ∷ 3 ∷ 3 ∷ 1 ∷ 1 ∷ 1 ∷ 7 ∷ 4 ∷ 2 ∷ 8 ∷ 4 ∷ 1 ∷ 8 ∷ 5 ∷ 2 ∷ 7 ∷ 5 ∷ 3 ∷ 3 ∷ []
 
--- what the maker answers: a table, as it is printed (sizes, left sides, lengths, rows), or the numbers of a refusal
+-- what the maker answers: a table, as it is printed (sizes, left sides, lengths, entering symbols, rows), or the numbers of a refusal
 pub data Answer : Type 0 where
-  table : (sizes left length : List ℕ) → (rows : List (List ℕ)) → Answer
+  table : (sizes left length entered : List ℕ) → (rows : List (List ℕ)) → Answer
   refused : List ℕ → Answer
 
 -- a line read with the card's table: the input, stack and list areas of so many places, each of which holds 9, and the step limit; then the numbers of
@@ -62,7 +62,7 @@ abbrev pub rows : List Row
 rows =
     record {
       card = cardA;
-      answer = table (4 ∷ 3 ∷ 1 ∷ 2 ∷ []) (3 ∷ 3 ∷ []) (2 ∷ 1 ∷ []) (
+      answer = table (4 ∷ 3 ∷ 1 ∷ 2 ∷ []) (3 ∷ 3 ∷ []) (2 ∷ 1 ∷ []) (0 ∷ 2 ∷ 3 ∷ 1 ∷ []) (
           (0 ∷ 0 ∷ 1 ∷ 2 ∷ []) ∷
           (1025 ∷ 1025 ∷ 0 ∷ 0 ∷ []) ∷
           (4096 ∷ 3 ∷ 0 ∷ 0 ∷ []) ∷
@@ -79,7 +79,7 @@ rows =
     } ∷
     record {
       card = cardE;
-      answer = table (2 ∷ 1 ∷ 1 ∷ 1 ∷ []) (1 ∷ []) (0 ∷ []) (
+      answer = table (2 ∷ 1 ∷ 1 ∷ 1 ∷ []) (1 ∷ []) (0 ∷ []) (0 ∷ 1 ∷ []) (
           (1024 ∷ 1 ∷ []) ∷
           (4096 ∷ 0 ∷ []) ∷
           []);
@@ -99,7 +99,7 @@ rows =
     } ∷
     record {
       card = cardF;
-      answer = table (10 ∷ 4 ∷ 3 ∷ 5 ∷ []) (4 ∷ 4 ∷ 5 ∷ 5 ∷ 6 ∷ []) (3 ∷ 1 ∷ 2 ∷ 1 ∷ 1 ∷ []) (
+      answer = table (10 ∷ 4 ∷ 3 ∷ 5 ∷ []) (4 ∷ 4 ∷ 5 ∷ 5 ∷ 6 ∷ []) (3 ∷ 1 ∷ 2 ∷ 1 ∷ 1 ∷ []) (0 ∷ 2 ∷ 3 ∷ 4 ∷ 5 ∷ 6 ∷ 5 ∷ 6 ∷ 1 ∷ 6 ∷ []) (
           (0 ∷ 0 ∷ 1 ∷ 2 ∷ 3 ∷ 4 ∷ 5 ∷ []) ∷
           (0 ∷ 0 ∷ 1 ∷ 2 ∷ 0 ∷ 6 ∷ 7 ∷ []) ∷
           (1027 ∷ 1027 ∷ 0 ∷ 0 ∷ 0 ∷ 0 ∷ 0 ∷ []) ∷
@@ -115,7 +115,7 @@ rows =
     } ∷
     record {
       card = cardG;
-      answer = table (13 ∷ 6 ∷ 3 ∷ 6 ∷ []) (6 ∷ 6 ∷ 6 ∷ 6 ∷ 7 ∷ 8 ∷ []) (3 ∷ 3 ∷ 3 ∷ 3 ∷ 1 ∷ 1 ∷ []) (
+      answer = table (13 ∷ 6 ∷ 3 ∷ 6 ∷ []) (6 ∷ 6 ∷ 6 ∷ 6 ∷ 7 ∷ 8 ∷ []) (3 ∷ 3 ∷ 3 ∷ 3 ∷ 1 ∷ 1 ∷ []) (0 ∷ 1 ∷ 2 ∷ 6 ∷ 5 ∷ 7 ∷ 8 ∷ 5 ∷ 7 ∷ 4 ∷ 3 ∷ 3 ∷ 4 ∷ []) (
           (0 ∷ 1 ∷ 2 ∷ 0 ∷ 0 ∷ 0 ∷ 3 ∷ 0 ∷ 0 ∷ []) ∷
           (0 ∷ 0 ∷ 0 ∷ 0 ∷ 0 ∷ 4 ∷ 0 ∷ 5 ∷ 6 ∷ []) ∷
           (0 ∷ 0 ∷ 0 ∷ 0 ∷ 0 ∷ 7 ∷ 0 ∷ 8 ∷ 6 ∷ []) ∷
@@ -152,7 +152,7 @@ joined [] = []
 joined (l ∷ ls) = l ++ joined ls
 
 abbrev pub stated : Answer → List Line → Result
-stated (table sizes left length rows) lines = record { numbers = 0 ∷ []; table = sizes ++ (left ++ (length ++ joined rows)); lines = lines }
+stated (table sizes left length entered rows) lines = record { numbers = 0 ∷ []; table = sizes ++ (left ++ (length ++ (entered ++ joined rows))); lines = lines }
 stated (refused numbers) lines = record { numbers = numbers; table = []; lines = lines }
 
 -- the table that stands in front of an area

@@ -1,6 +1,6 @@
 -- Demand 3 for the reader, proved for every table that means the grammar.
-use Prim.Native.Nat.{ℕ, suc, _+_, _≤_}
-use mathlib.Core.Path.{_≡_, refl, ap, _∙_}
+use Prim.Native.Nat.{ℕ, suc, _+_}
+use mathlib.Core.Path.{_≡_, refl, sym, ap, _∙_}
 use mathlib.Core.Logic.{_≢_, _↔_}
 use mathlib.Core.List.{List, [], _∷_, reverse}
 use lib.ListN.{length, drop, take, take-append-drop}
@@ -12,13 +12,13 @@ use Rattle.lr.specs.Items
 use Rattle.lr.proofs.ItemLaws.{AllProductive}
 use Rattle.lr.proofs.MachineLaws.{accepted, refused}
 use Rattle.lr.proofs.ErrorPosition.{Begins, ErrorPosition, at-terminal, at-end, place-of, begins-front}
-use Rattle.machine.specs.Checks.{refusalOf}
+use Rattle.machine.specs.Checks.{refusalOf, TableRefusal, Refusal, input-long, terminal-wrong, no-stack}
 use Rattle.machine.specs.ComputedRun.{reading}
 pub use Rattle.claim.specs.Claim.{Settled, Demand3}
 use Rattle.machine.specs.Faithful.{Allowed}
 use Rattle.machine.proofs.LrMachineLaws.{Config, conf, Path}
 use Rattle.claim.proofs.Means.{Limits, TableMeans}
-use Rattle.claim.proofs.Refusals.{Refusal, refusals, input-long, no-terminal, no-stack, takes}
+use Rattle.claim.proofs.Refusals.{Due, refusals, long-input, no-terminal, empty-stack, takes}
 use Rattle.claim.proofs.Follow.{act, tab, on, follows, Followed, followed, ends-accept, ends-wrong, never-broken}
 use Rattle.machine.proofs.ReportLaws.{Reading, numberOf, positionOf, productionsOf, Stops, accepted-here, wrong-here, no-steps, list-full, broken-here, stack-full, Faithful, number-is, position-is, productions-are}
 use Rattle.machine.proofs.ReadsLaws.{faithful, refused-is}
@@ -31,7 +31,7 @@ end-is g l i (at-terminal h b n) = (
 )
 end-is g l i (at-end e b n) = (λ _. (b, n), λ _. e)
 
-unsettled : {g : Grammar} (l : List ℕ) (r : Reading) → (21 ≤ numberOf r → numberOf r ≤ 24 → ⊥) → numberOf r ≢ 35 → numberOf r ≢ 0 → (Settled (numberOf r) → ⊥) → Demand3 g l r
+unsettled : {g : Grammar} (l : List ℕ) (r : Reading) → (TableRefusal (numberOf r) → ⊥) → numberOf r ≢ 35 → numberOf r ≢ 0 → (Settled (numberOf r) → ⊥) → Demand3 g l r
 unsettled l r h₁ h₂ h₃ h₄ =
     record {
       table-taken = h₁;
@@ -80,7 +80,7 @@ module _ (g : Grammar) (f : Formed g) (pr : AllProductive g) (li : Limits g) (t 
   demand-of : (l : List ℕ) (r : Reading) {p : List ℕ} {n : ℕ} → numberOf r ≡ n → productionsOf r ≡ p → Ended g l (positionOf r) p n → Demand3 g l r
   demand-of l r en ep (sentence s d o) =
       record {
-        table-taken = λ h k. omega (arith, en);
+        table-taken = λ h. elim (rw en at h) [ ];
         never-breaks = λ e. omega (arith, en, e);
         accepts = λ _. (λ _. s, λ _. en);
         derivation = λ _. rw ep d;
@@ -90,7 +90,7 @@ module _ (g : Grammar) (f : Formed g) (pr : AllProductive g) (li : Limits g) (t 
       }
   demand-of l r en ep (no-sentence s p) =
       record {
-        table-taken = λ h k. omega (arith, en);
+        table-taken = λ h. elim (rw en at h) [ ];
         never-breaks = λ e. omega (arith, en, e);
         accepts = λ _. (λ z. absurd (omega (arith, en, z)), λ z. absurd (s z));
         derivation = λ z. absurd (omega (arith, en, z));
@@ -98,25 +98,24 @@ module _ (g : Grammar) (f : Formed g) (pr : AllProductive g) (li : Limits g) (t 
         names-position = λ _ z. (en, p);
         names-end = λ _ z. end-is g l (positionOf r) p;
       }
-  demand-of l r en ep out-32 = unsettled l r (λ h k. omega (arith, en)) (λ e. omega (arith, en, e)) (λ e. omega (arith, en, e)) (λ s. s .steps-left en)
-  demand-of l r en ep out-33 = unsettled l r (λ h k. omega (arith, en)) (λ e. omega (arith, en, e)) (λ e. omega (arith, en, e)) (λ s. s .stack-left en)
-  demand-of l r en ep out-34 = unsettled l r (λ h k. omega (arith, en)) (λ e. omega (arith, en, e)) (λ e. omega (arith, en, e)) (λ s. s .list-left en)
+  demand-of l r en ep out-32 = unsettled l r (λ h. elim (rw en at h) [ ]) (λ e. omega (arith, en, e)) (λ e. omega (arith, en, e)) (λ s. s .steps-left en)
+  demand-of l r en ep out-33 = unsettled l r (λ h. elim (rw en at h) [ ]) (λ e. omega (arith, en, e)) (λ e. omega (arith, en, e)) (λ s. s .stack-left en)
+  demand-of l r en ep out-34 = unsettled l r (λ h. elim (rw en at h) [ ]) (λ e. omega (arith, en, e)) (λ e. omega (arith, en, e)) (λ s. s .list-left en)
 
   -- the claim
   pub demand-3 : (l st la : List ℕ) (a : ℕ) → Demand3 g l (reading t l st la a)
   demand-3 l st la a = go (refusals g f pr li t tm l (length st)) refl
     where
-      stopped : (n : ℕ) → refusalOf t l (length st) ≡ n → 25 ≤ n → n ≤ 27 → Demand3 g l (reading t l st la a)
-      stopped n e h k =
-          let z : refusalOf t l (length st) ≢ 0 = λ z. omega (arith, e, z) in
-          let en : numberOf (reading t l st la a) ≡ n = ap numberOf (refused-is t l st la a (refusalOf t l (length st)) refl z) ∙ e in
-          unsettled l (reading t l st la a) (λ b c. omega (arith, en)) (λ e. omega (arith, en, e)) (λ e. omega (arith, en, e)) (λ s. s .taken (omega (arith, en)) (omega (arith, en)))
+      stopped : {n : ℕ} → refusalOf t l (length st) ≡ n → Refusal n → (TableRefusal n → ⊥) → n ≢ 0 → n ≢ 35 → Demand3 g l (reading t l st la a)
+      stopped {n} e h k nz nb =
+          let en : numberOf (reading t l st la a) ≡ n = ap numberOf (refused-is t l st la a n e nz) in
+          unsettled l (reading t l st la a) (λ h. k (rw en at h)) (λ e. nb (sym en ∙ e)) (λ e. nz (sym en ∙ e)) (λ s. s .taken (rw en h))
 
       read : {r : Reading} → Symbols g.terminals l → Faithful t l st la a r → Demand3 g l r
       read {r} m fd = demand-of l r (number-is fd) (productions-are fd) (ended m (fd .path) (fd .why) (positionOf r) (position-is fd))
 
-      go : {n : ℕ} → Refusal g f pr li t tm l (length st) n → refusalOf t l (length st) ≡ n → Demand3 g l (reading t l st la a)
-      go (input-long h) e = stopped 25 e (omega arith) (omega arith)
-      go (no-terminal h k) e = stopped 26 e (omega arith) (omega arith)
-      go (no-stack h k z) e = stopped 27 e (omega arith) (omega arith)
+      go : {n : ℕ} → Due g f pr li t tm l (length st) n → refusalOf t l (length st) ≡ n → Demand3 g l (reading t l st la a)
+      go (long-input h) e = stopped e input-long (λ h. elim h [ ]) (λ z. omega arith) (λ z. omega arith)
+      go (no-terminal h k) e = stopped e terminal-wrong (λ h. elim h [ ]) (λ z. omega arith) (λ z. omega arith)
+      go (empty-stack h k z) e = stopped e no-stack (λ h. elim h [ ]) (λ z. omega arith) (λ z. omega arith)
       go (takes h m k) e = read m (faithful t l st la a e)

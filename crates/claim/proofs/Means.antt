@@ -1,7 +1,7 @@
--- What it is for a list of numbers to be the table of a grammar: the layout, and in its cells the actions of the merged states.
+-- What it is for a list of numbers to be the table of a grammar: the layout, and in it the entering symbols and the actions of the merged states.
 use Prim.Native.Nat.{ℕ, _+_, _<_, _≤_}
 use mathlib.Core.Path.{_≡_, refl, sym, ap, _∙_}
-use mathlib.Core.Logic.{_≢_}
+use mathlib.Core.Logic.{_≢_, _↔_}
 use mathlib.Core.List.{List}
 use lib.ListN.{length}
 use native.Mathlib.Omega.{arith}
@@ -11,12 +11,12 @@ use Rattle.lr.proofs.Runs.{Act, shift, reduce, accept, wrong}
 use Rattle.lr.proofs.Canonical.{by-path}
 use Rattle.lr.specs.Items
 use Rattle.lr.specs.States.{States}
-use Rattle.lr.specs.Cells.{Action, shifts, reduces, accepts}
+use Rattle.lr.specs.Cells.{Action, shifts, reduces, accepts, Entered}
 use Rattle.lr.proofs.ItemLaws.{AllProductive, lookahead-terminal, added-end}
 use Rattle.lr.proofs.Paths.{Has, state-automaton}
 use Rattle.lr.proofs.Automaton.{Automaton, Cells, Lookahead, walk, sits-lookahead, merged-item}
 use Rattle.tables.specs.Layout
-use Rattle.tables.specs.Layout.{states, terminals, nonterminals, productions, cellOf, leftOf, lengthOf, sizeOf, reduction}
+use Rattle.tables.specs.Layout.{states, terminals, nonterminals, productions, cellOf, leftOf, lengthOf, enteredOf, sizeOf, reduction}
 use Rattle.machine.proofs.LrMachineLaws.{Kind, kind, is-wrong, is-shift, is-accept, is-reduce}
 
 -- the limits of sizes
@@ -37,6 +37,7 @@ pub record TableMeans (g : Grammar) (t : List ℕ) : Type 0 where
   pub whole : sizeOf t ≤ length t
   pub lefts : (r : ℕ) → r < g.productions → leftOf t r ≡ g.left r
   pub lengths : (r : ℕ) → r < g.productions → lengthOf t r ≡ length (g.right r)
+  pub entered : (q x : ℕ) → q < states t → (enteredOf t q ≡ x) ↔ Entered g next q x
   pub in-cell : {q m v : ℕ} → q < states t → m < g.terminals → Action g next q m v → cellOf t q m ≡ v
   pub from-cell : {q m : ℕ} → q < states t → m < g.terminals → cellOf t q m ≢ 0 → Action g next q m (cellOf t q m)
   pub nonterminal-cell : {q x : ℕ} → q < states t → g.terminals ≤ x → x < g.terminals + g.nonterminals → cellOf t q x ≡ next q x

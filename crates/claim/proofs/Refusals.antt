@@ -1,6 +1,6 @@
--- The reader's checks of a table that means a grammar: 21 to 24 never come, and 25 to 27 come just where they are due.
+-- The reader's checks of a table that means a grammar: 21 to 24 and 44 never come, and 25 to 27 come just where they are due.
 use Prim.Native.Nat.{ℕ, zero, suc, _+_, _-_, _<_, _≤_}
-use mathlib.Core.Path.{_≡_, refl}
+use mathlib.Core.Path.{_≡_, refl, sym, ap, _∙_}
 use mathlib.Core.Logic.{_≢_}
 use mathlib.Core.List.{List, [], _∷_}
 use mathlib.Core.Bool.{Bool, true, false}
@@ -10,14 +10,16 @@ use borrow.Author.Tests.{lt-ltb, le-ltb, le-leb, ne-eqb, ltb-true, ltb-false, le
 use native.Mathlib.Omega.{arith}
 use native.Mathlib.Decide.{decLt, ℕ-discrete}
 use Rattle.grammar.specs.Grammar.{Grammar, Formed, Symbols, none, more}
-use Rattle.lr.specs.Cells.{Action, shifts, reduces, accepts}
+use Rattle.lr.specs.Cells.{Action, shifts, reduces, accepts, start}
+use Rattle.lr.proofs.Entering.{entered-below, move-enters}
 use Rattle.lr.proofs.ItemLaws.{AllProductive, after-positive}
 use Rattle.lr.proofs.Runs
 use Rattle.lr.proofs.Automaton.{Goes, goes}
 use Rattle.lr.proofs.Paths.{Has}
-use Rattle.tables.specs.Layout.{states, terminals, nonterminals, productions, width, cellOf, leftOf, lengthOf, sizeOf}
-use Rattle.machine.specs.Checks.{sizesOk, productionOk, terminalCellOk, cellOk, rowOk, productionsOk, cellsOk, terminalOk, inputOk, refusalOf}
-use Rattle.sets.specs.Tests.{unless}
+use Rattle.tables.specs.Layout.{states, terminals, nonterminals, productions, width, cellOf, leftOf, lengthOf, enteredOf, sizeOf}
+use Rattle.machine.specs.Checks.{sizesOk, productionOk, terminalCellOk, cellOk, rowOk, productionsOk, cellsOk, entriesOk, terminalOk, inputOk, tableRefusal, inputRefusal, areaRefusal, refusalOf}
+use Rattle.machine.proofs.Entries.{entries-pass}
+use Rattle.sets.specs.Tests.{unless, firstRefusal}
 use Rattle.sets.proofs.TestLaws.{and-true, and-left, and-right, all-true, all-at, between-true}
 use Rattle.claim.proofs.Means.{Limits, TableMeans, automaton, lookahead-added}
 
@@ -87,10 +89,48 @@ module _ (g : Grammar) (f : Formed g) (pr : AllProductive g) (li : Limits g) (t 
   unfolding sizeOf
   long = let h = tm.whole in le-leb 4 (length t) (omega (arith, h))
 
-  -- 21 to 24 never come
+  -- the state that a cell names is entered under the cell's column
+  moved : (q x : ℕ) → q < states t → x < width t → 0 < cellOf t q x → cellOf t q x < states t → enteredOf t (cellOf t q x) ≡ x
+  moved q x h k z b = go (decLt x (terminals t))
+    where
+      enters : (v : ℕ) → v ≡ tm.next q x → 0 < v → v < states t → enteredOf t v ≡ x
+      enters v e z b = tm.entered v x b .1 (rw e (move-enters g tm.numbered q x h (λ n. omega (arith, e, n))))
+
+      -- a reduction or acceptance is no state
+      shifted : {v : ℕ} → Action g tm.next q x v → v < states t → v ≡ tm.next q x
+      shifted (shifts _ _) b = refl
+      shifted (reduces r _ _) b = absurd (let s = tm.states-most in omega arith)
+      shifted (accepts _) b = absurd (let s = tm.states-most in omega arith)
+
+      go : Dec (x < terminals t) → enteredOf t (cellOf t q x) ≡ x
+      go (yes m) = enters (cellOf t q x) (shifted (tm.from-cell h (rw tm.terminals-are at m) (λ e. omega (arith, e))) b) z b
+      go (no m) =
+          let e = tm.terminals-are in
+          let w = width-means in
+          enters (cellOf t q x) (tm.nonterminal-cell h (omega (arith, m)) (omega arith)) z b
+
+  entries-ok : entriesOk t ≡ true
+  entries-ok =
+      entries-pass t
+      (record {
+        symbol = λ q h. rw width-means (entered-below g f pr (tm.entered q (enteredOf t q) h .0 refl));
+        first = tm.entered 0 0 (automaton g f pr li t tm .some-state) .1 (start refl);
+        named = moved;
+      })
+
+  -- 21 to 24 and 44 never come
+  pub table-passes : tableRefusal t ≡ 0
+  unfolding tableRefusal
+  table-passes = rw (long, sizes-ok, le-leb (sizeOf t) (length t) (tm.whole), productions-ok, cells-ok, entries-ok)
+
   pub refusal-is : (l : List ℕ) (n : ℕ) → refusalOf t l n ≡ unless (leb (length l) 65535) 25 (unless (inputOk t l) 26 (unless (ltb 0 n) 27 0))
-  unfolding refusalOf
-  refusal-is l n = rw (long, sizes-ok, le-leb (sizeOf t) (length t) (tm.whole), productions-ok, cells-ok)
+  unfolding refusalOf inputRefusal areaRefusal
+  refusal-is l n = rw table-passes (go (leb (length l) 65535) (inputOk t l))
+    where
+      go : (a b : Bool) → firstRefusal (unless a 25 (unless b 26 0)) (areaRefusal n) ≡ unless a 25 (unless b 26 (unless (ltb 0 n) 27 0))
+      go false b = refl
+      go true false = refl
+      go true true = refl
 
   terminal-is : (b : ℕ) → terminalOk t b ≡ true → (0 < b) × (b < g.terminals)
   unfolding terminalOk
@@ -114,18 +154,18 @@ module _ (g : Grammar) (f : Formed g) (pr : AllProductive g) (li : Limits g) (t 
       at (more {a} h k m) zero z = and-true (lt-ltb 0 a h) (lt-ltb a (terminals t) (rw tm.terminals-are k))
       at (more h k m) (suc i) z = at m i (omega arith)
 
-  -- what the reader's refusal is, of such a table
-  pub data Refusal (l : List ℕ) (n : ℕ) : ℕ → Type 0 where
-    input-long : 65535 < length l → Refusal l n 25
-    no-terminal : length l ≤ 65535 → (Symbols g.terminals l → ⊥) → Refusal l n 26
-    no-stack : length l ≤ 65535 → Symbols g.terminals l → n ≡ 0 → Refusal l n 27
-    takes : length l ≤ 65535 → Symbols g.terminals l → 0 < n → Refusal l n 0
+  -- what the reader answers such a table with before it reads
+  pub data Due (l : List ℕ) (n : ℕ) : ℕ → Type 0 where
+    long-input : 65535 < length l → Due l n 25
+    no-terminal : length l ≤ 65535 → (Symbols g.terminals l → ⊥) → Due l n 26
+    empty-stack : length l ≤ 65535 → Symbols g.terminals l → n ≡ 0 → Due l n 27
+    takes : length l ≤ 65535 → Symbols g.terminals l → 0 < n → Due l n 0
 
-  pub refusals : (l : List ℕ) (n : ℕ) → Refusal l n (refusalOf t l n)
+  pub refusals : (l : List ℕ) (n : ℕ) → Due l n (refusalOf t l n)
   refusals l n = rw refusal-is (go (leb (length l) 65535) (inputOk t l) (ltb 0 n) refl refl refl)
     where
-      go : (a b c : Bool) → leb (length l) 65535 ≡ a → inputOk t l ≡ b → ltb 0 n ≡ c → Refusal l n (unless a 25 (unless b 26 (unless c 27 0)))
-      go false b c ea eb ec = input-long (leb-false (length l) 65535 ea)
+      go : (a b c : Bool) → leb (length l) 65535 ≡ a → inputOk t l ≡ b → ltb 0 n ≡ c → Due l n (unless a 25 (unless b 26 (unless c 27 0)))
+      go false b c ea eb ec = long-input (leb-false (length l) 65535 ea)
       go true false c ea eb ec = no-terminal (leb-true (length l) 65535 ea) (λ m. let e = terminals-input m in let z : _≡_ {A = ℕ} 0 1 = cc in omega arith)
-      go true true false ea eb ec = no-stack (leb-true (length l) 65535 ea) (input-terminals l eb) (let h = ltb-false 0 n ec in omega arith)
+      go true true false ea eb ec = empty-stack (leb-true (length l) 65535 ea) (input-terminals l eb) (let h = ltb-false 0 n ec in omega arith)
       go true true true ea eb ec = takes (leb-true (length l) 65535 ea) (input-terminals l eb) (ltb-true 0 n ec)

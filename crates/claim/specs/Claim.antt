@@ -1,23 +1,24 @@
 -- Demand 3: what a reading's answer says of the grammar and the input.
-use Prim.Native.Nat.{ℕ, _≤_}
+use Prim.Native.Nat.{ℕ}
 use mathlib.Core.Path.{_≡_}
 use mathlib.Core.Logic.{_≢_, _↔_}
 use mathlib.Core.List.{List, [], _∷_, reverse}
 use lib.ListN.{length}
 use Rattle.grammar.specs.Grammar.{Grammar, Sentence, Rightmost}
 use Rattle.grammar.specs.Prefix.{Begins, ErrorPosition}
+use Rattle.machine.specs.Checks.{TableRefusal, Refusal}
 use Rattle.machine.specs.Report.{Reading, numberOf, positionOf, productionsOf}
 
 -- "takes the line and does not run out of moves, stack or list": the answer is no refusal, and none of 32, 33, 34
 pub record Settled (n : ℕ) : Type 0 where
-  pub taken : 21 ≤ n → n ≤ 27 → ⊥
+  pub taken : Refusal n → ⊥
   pub steps-left : n ≢ 32
   pub stack-left : n ≢ 33
   pub list-left : n ≢ 34
 
 pub record Demand3 (g : Grammar) (input : List ℕ) (r : Reading) : Type 0 where
-  -- "with the maker's table 35 never comes, nor do 21 to 24"
-  pub table-taken : 21 ≤ numberOf r → numberOf r ≤ 24 → ⊥
+  -- "with the maker's table 35 never comes, nor do 21 to 24", and 44 "never comes with the maker's table"
+  pub table-taken : TableRefusal (numberOf r) → ⊥
   pub never-breaks : numberOf r ≢ 35
   -- "it accepts exactly when the grammar derives the line"
   pub accepts : Settled (numberOf r) → (numberOf r ≡ 0) ↔ Sentence g input

@@ -1,6 +1,7 @@
 -- From what the phases found to the maker's contract.
 use mathlib.Core.Path.{_≡_, refl, sym, ap, _∙_}
 use mathlib.Core.Bool.{true, false}
+use mathlib.Core.Logic.{_↔_}
 use mathlib.Core.List.{List, [], _∷_, _++_}
 use Prim.Native.Nat.{ℕ, _+_, _-_, _≤_, _<_}
 use native.Mathlib.Omega.{arith}
@@ -14,7 +15,7 @@ use Rattle.grammar.specs.Useful.{LowestUseless}
 use Rattle.grammar.specs.Card.{terminals, nonterminals, productions, leftOf, lengthOf, formFault, grammarOf}
 use Rattle.grammar.proofs.CardLaws.{right-length}
 use Rattle.tables.specs.Layout.{build}
-use Rattle.tables.proofs.LayoutLaws.{built-sizes, built-long, built-left, built-length, built-cell}
+use Rattle.tables.proofs.LayoutLaws.{built-sizes, built-long, built-left, built-length, built-entered, built-cell}
 use Rattle.lr.specs.States.{States, MoreStates}
 use Rattle.lr.specs.Cells as lr
 use Rattle.lalr.specs.Answer.{made, refused, uselessAt, conflict, numbersOf}
@@ -28,16 +29,18 @@ use Rattle.lalr.proofs.Main.{card-answer}
 use Rattle.states.specs.States.{transition}
 use Rattle.transitions.specs.Places.{transitionLimit}
 use Rattle.transitions.specs.Next.{nextOf, Numbered, transitionCount}
+use Rattle.transitions.specs.Area.{enteringOf}
 use Rattle.transitions.specs.Data.{Data}
 use Rattle.tables.specs.Conflicts.{Conflict}
 use Rattle.areas.specs.Areas.{tableSize, wordsSize, halvesSize}
 use Rattle.cells.specs.Actions.{IsCell}
 use Rattle.bridge.specs.Premises.{Stated, Followed}
 use Rattle.bridge.specs.Actions.{Acts}
-use Rattle.bridge.proofs.Numbering.{numbered}
+use Rattle.bridge.proofs.Numbering.{card-formed, card-productive, numbered}
 use Rattle.bridge.proofs.Counting.{transition-count}
 use Rattle.bridge.proofs.SameStates.{states-same, next-inside}
 use Rattle.lr.proofs.CellLaws.{cell-single}
+use Rattle.lr.proofs.Entering.{entries, entered-below}
 use Rattle.bridge.proofs.ActionLaws.{cell-is, conflict-is}
 use Rattle.generator.specs.declared.Answer.{Answer}
 use Rattle.generator.specs.Answer.{numbers, GeneratesAs}
@@ -99,6 +102,14 @@ module _ (t₀ z₀ w₀ c : List ℕ) where
       pub twelve : (k : ℕ) → k ≡ transitionCount c (nextOf c t n) n → transitionLimit < k → generated t₀ z₀ w₀ c .answer ≡ refused 12
       twelve k e h = judged t₀ z₀ w₀ c o f (refused 12) (wide n (nextOf c t n) u (stated .states) few (rw (transition-count c (nextOf c t n) n) at (rw e at h)))
 
+      -- the work area holds the entering symbols
+      module _ (w : List ℕ) (k e : ℕ) (data′ : Data c w n k e (nextOf c t n)) where
+        entering-is : (q x : ℕ) → q < n → (enteringOf w q ≡ x) ↔ lr.Entered (grammarOf c) (nextOf c t n) q x
+        entering-is = entries (grammarOf c) (stated .states) (enteringOf w) (data′ .start) (λ p x h nz. data′ .goes p x (nextOf c t n p x) (record { target = refl; some = nz }) .symbol)
+
+        pub entering-below : (q : ℕ) → q < n → enteringOf w q < terminals c + nonterminals c
+        entering-below q h = entered-below (grammarOf c) (card-formed stated) (card-productive stated) (entering-is q (enteringOf w q) h .0 refl)
+
       module _ (w z₁ z : List ℕ) (k e : ℕ) (count : k ≡ transitionCount c (nextOf c t n) n) (small : k ≤ transitionLimit) (data′ : Data c w n k e (nextOf c t n))
           (null : (j : ℕ) → j < nonterminals c → Tells (bit e j) (Derives (grammarOf c) ((terminals c + j) ∷ []) [])) (co : Complete c w n k (nextOf c t n) z₁ z) where
         followed : Followed c w n k e (nextOf c t n) z
@@ -112,10 +123,11 @@ module _ (t₀ z₀ w₀ c : List ℕ) where
         thirteen q m v x h = judged t₀ z₀ w₀ c o f (conflict q m v x) (clash n (nextOf c t n) sized (conflict-is followed q m v x h))
 
         -- a table
-        module _ (cell : ℕ → ℕ → ℕ) (cells : (q m : ℕ) → q < n → m < terminals c → IsCell (Acts c w z k (nextOf c t n) q m) (cell q m))
+        module _ (entered : ℕ → ℕ) (cell : ℕ → ℕ → ℕ) (symbols : (q : ℕ) → q < n → entered q ≡ enteringOf w q)
+            (cells : (q m : ℕ) → q < n → m < terminals c → IsCell (Acts c w z k (nextOf c t n) q m) (cell q m))
             (nexts : (q x : ℕ) → q < n → terminals c ≤ x → x < terminals c + nonterminals c → cell q x ≡ nextOf c t n q x) where
           abbrev built : List ℕ
-          built = build n (terminals c) (nonterminals c) (productions c) (leftOf c) (lengthOf c) cell
+          built = build n (terminals c) (nonterminals c) (productions c) (leftOf c) (lengthOf c) entered cell
 
           pub table-made : generated t₀ z₀ w₀ c .answer ≡ made
           table-made = judged t₀ z₀ w₀ c o f made (fine n (nextOf c t n) sized (λ q m h l. cell-single (grammarOf c) (cell-is followed q m (cell q m) (cells q m h l))))
@@ -124,14 +136,16 @@ module _ (t₀ z₀ w₀ c : List ℕ) where
           is-table =
               record {
                 states = stated .states;
-                sizes = built-sizes n (terminals c) (nonterminals c) (productions c) (leftOf c) (lengthOf c) cell;
-                long = built-long n (terminals c) (nonterminals c) (productions c) (leftOf c) (lengthOf c) cell;
-                lefts = λ r h. built-left n (terminals c) (nonterminals c) (productions c) (leftOf c) (lengthOf c) cell r h;
-                lengths = λ r h. built-length n (terminals c) (nonterminals c) (productions c) (leftOf c) (lengthOf c) cell r h ∙ sym (right-length c r h);
+                sizes = built-sizes n (terminals c) (nonterminals c) (productions c) (leftOf c) (lengthOf c) entered cell;
+                long = built-long n (terminals c) (nonterminals c) (productions c) (leftOf c) (lengthOf c) entered cell;
+                lefts = λ r h. built-left n (terminals c) (nonterminals c) (productions c) (leftOf c) (lengthOf c) entered cell r h;
+                lengths = λ r h. built-length n (terminals c) (nonterminals c) (productions c) (leftOf c) (lengthOf c) entered cell r h ∙ sym (right-length c r h);
+                entered = λ q x h.
+                    rw (built-entered n (terminals c) (nonterminals c) (productions c) (leftOf c) (lengthOf c) entered cell q h, symbols q h) (entering-is w k e data′ q x h);
                 terminals = λ q m hq hm.
-                    rw (built-cell n (terminals c) (nonterminals c) (productions c) (leftOf c) (lengthOf c) cell q m hq (omega arith)) (cell-is followed q m (cell q m) (cells q m hq hm));
+                    rw (built-cell n (terminals c) (nonterminals c) (productions c) (leftOf c) (lengthOf c) entered cell q m hq (omega arith)) (cell-is followed q m (cell q m) (cells q m hq hm));
                 nonterminals = λ q x hq hx.
-                    built-cell n (terminals c) (nonterminals c) (productions c) (leftOf c) (lengthOf c) cell q (terminals c + x) hq (omega arith) ∙ nexts q (terminals c + x) hq (omega arith) (omega arith);
+                    built-cell n (terminals c) (nonterminals c) (productions c) (leftOf c) (lengthOf c) entered cell q (terminals c + x) hq (omega arith) ∙ nexts q (terminals c + x) hq (omega arith) (omega arith);
               }
 
           pub the-table : built ≡ tableOf c

@@ -27,7 +27,7 @@ use Rattle.lookaheads.specs.declared.Clash.the-variants.{Free, At}
 use Rattle.generator.specs.declared.Answer.the-variants.{Table, ManyStates, ManyTransitions, Conflict}
 use Rattle.generator.specs.Answer.{GeneratesAs}
 use Rattle.generator.specs.Phases.{Cleared, Complete}
-use Rattle.generator.proofs.Laws.{covered-same, covers-all, eleven, twelve, thirteen, table-made, the-table, numbers-states}
+use Rattle.generator.proofs.Laws.{covered-same, covers-all, eleven, twelve, thirteen, table-made, the-table, numbers-states, entering-below}
 use Rattle.generator.proofs.Walks.{sets-terminals}
 
 -- of more than 256 states, or of their number
@@ -86,6 +86,7 @@ module _ (t₀ z₀ w₀ c : List ℕ) (o : Room t₀ z₀ w₀) (f : formFault 
                 numbered = numbered-states;
                 shifts = co .shifts;
                 terminals = λ i m h g. sets-terminals c w₂ n k (nextOf c t₁ n) z₁ z₂ (l .holds narrow .ordered) co i m h g;
+                entering = entering-below t₀ z₀ w₀ c o f u t₁ n small (found c t₁ n after small) w₂ k e (l .holds narrow);
                 table-long = omega (arith, lt, o .table);
                 words-long = omega (arith, co .long, lz, o .words);
                 halves-long = omega (arith, l .long, lw, o .halves);
@@ -101,8 +102,8 @@ module _ (t₀ z₀ w₀ c : List ℕ) (o : Room t₀ z₀ w₀) (f : formFault 
                 let T = p .outcome k (l .holds narrow .ordered) in
                 let st = found c t₁ n after small in
                 covers-all t₀ z₀ w₀ c made Table t z w
-                (table-made t₀ z₀ w₀ c o f u t₁ n small st w₂ z₁ z₂ k e (l .count) narrow (l .holds narrow) (null .tells) co (T .cell) (T .actions) (T .nexts)) refl refl
-                (T .area ∙ same-table _ ∙ ap (λ (x : List ℕ). covered tableSize x t₀) (the-table t₀ z₀ w₀ c o f u t₁ n small st w₂ z₁ z₂ k e (l .count) narrow (l .holds narrow) (null .tells) co (T .cell) (T .actions) (T .nexts)))
+                (table-made t₀ z₀ w₀ c o f u t₁ n small st w₂ z₁ z₂ k e (l .count) narrow (l .holds narrow) (null .tells) co (T .entered) (T .cell) (T .entries) (T .actions) (T .nexts)) refl refl
+                (T .area ∙ same-table _ ∙ ap (λ (x : List ℕ). covered tableSize x t₀) (the-table t₀ z₀ w₀ c o f u t₁ n small st w₂ z₁ z₂ k e (l .count) narrow (l .holds narrow) (null .tells) co (T .entered) (T .cell) (T .entries) (T .actions) (T .nexts)))
                 (p .words ∙ words-left)
                 (p .halves ∙ same-halves)
 

@@ -12,6 +12,7 @@ pub mod StateLaws
 pub mod FactLaws
 pub mod CellLaws
 pub mod Judge
+pub mod EnteringLaws
 pub mod TableLaws
 pub mod Main
 pub mod AreaLaws

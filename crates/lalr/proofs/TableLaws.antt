@@ -19,15 +19,16 @@ use Rattle.lr.specs.Cells.{Action, Cell, Table}
 use Rattle.grammar.specs.Card.{formFault, grammarOf, leftOf, lengthOf, terminals, nonterminals, productions}
 use Rattle.lalr.specs.ComputedNonterminals.{uselessNonterminal}
 use Rattle.lalr.specs.ComputedStates
-use Rattle.lalr.specs.ComputedStates.{states, facts, cell}
+use Rattle.lalr.specs.ComputedStates.{states, facts, cell, entering}
 use Rattle.lalr.specs.Answer.{made, refused, uselessAt}
 use Rattle.lalr.specs.ComputedAnswer.{conflictOf, judge, grammarAnswer, cardAnswer, tableOf}
 use Rattle.lalr.proofs.StateLaws
 use Rattle.lalr.proofs.CellLaws.{conflict-search, Short, cell-action, action-cell, no-conflict}
 use Rattle.lalr.proofs.UsefulLaws.{none-useless}
 use Rattle.grammar.proofs.CardLaws.{WellFormed, well-formed, formed, right-length}
-use Rattle.tables.proofs.LayoutLaws.{built-sizes, built-long, built-left, built-length, built-cell}
+use Rattle.tables.proofs.LayoutLaws.{built-sizes, built-long, built-left, built-length, built-entered, built-cell}
 use Rattle.lalr.proofs.Judge.{holds, built, built-states, acts}
+use Rattle.lalr.proofs.EnteringLaws.{entering-is}
 
 -- the answer of a card is `made`: no test refuses it
 pub record Made (c : List ℕ) : Type 0 where
@@ -122,19 +123,26 @@ module _ (c : List ℕ) (mk : Made c) where
   nonterminal-cell : (q x : ℕ) → terminals c ≤ x → column q x ≡ transitions q x
   nonterminal-cell q x h = rw (le-ltb x (terminals c) h)
 
+  abbrev entries : ℕ → ℕ
+  entries q = entering g (states g .rows) q
+
   -- the table
   pub table-is : Table g count transitions (tableOf c)
   unfolding tableOf
   table-is =
+      let numbered = built-states g the-formed the-productive (mk .few) in
       record {
-        states = built-states g the-formed the-productive (mk .few);
-        sizes = built-sizes count (terminals c) (nonterminals c) (productions c) (leftOf c) (lengthOf c) column;
-        long = built-long count (terminals c) (nonterminals c) (productions c) (leftOf c) (lengthOf c) column;
-        lefts = λ r h. built-left count (terminals c) (nonterminals c) (productions c) (leftOf c) (lengthOf c) column r h;
-        lengths = λ r h. built-length count (terminals c) (nonterminals c) (productions c) (leftOf c) (lengthOf c) column r h ∙ sym (right-length c r h);
+        states = numbered;
+        sizes = built-sizes count (terminals c) (nonterminals c) (productions c) (leftOf c) (lengthOf c) entries column;
+        long = built-long count (terminals c) (nonterminals c) (productions c) (leftOf c) (lengthOf c) entries column;
+        lefts = λ r h. built-left count (terminals c) (nonterminals c) (productions c) (leftOf c) (lengthOf c) entries column r h;
+        lengths = λ r h. built-length count (terminals c) (nonterminals c) (productions c) (leftOf c) (lengthOf c) entries column r h ∙ sym (right-length c r h);
+        entered = λ q x h.
+            rw (built-entered count (terminals c) (nonterminals c) (productions c) (leftOf c) (lengthOf c) entries column q h)
+            (entering-is g the-formed the-productive (states g .rows) numbered q x h);
         terminals = λ q m hq hm.
-            rw (built-cell count (terminals c) (nonterminals c) (productions c) (leftOf c) (lengthOf c) column q m hq (omega arith) ∙ terminal-cell q m hm)
+            rw (built-cell count (terminals c) (nonterminals c) (productions c) (leftOf c) (lengthOf c) entries column q m hq (omega arith) ∙ terminal-cell q m hm)
             (cell-is g the-formed the-productive productions-few (mk .few) q m hm (short q m hq hm));
         nonterminals = λ q x hq hx.
-            built-cell count (terminals c) (nonterminals c) (productions c) (leftOf c) (lengthOf c) column q (terminals c + x) hq (omega arith) ∙ nonterminal-cell q (terminals c + x) (omega arith);
+            built-cell count (terminals c) (nonterminals c) (productions c) (leftOf c) (lengthOf c) entries column q (terminals c + x) hq (omega arith) ∙ nonterminal-cell q (terminals c + x) (omega arith);
       }

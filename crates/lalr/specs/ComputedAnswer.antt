@@ -11,7 +11,7 @@ use Rattle.tables.specs.Layout.{build}
 use Rattle.lr.specs.States.{nonterminalTransitions}
 use Rattle.lalr.specs.Answer.{Answer, made, refused, uselessAt, conflict}
 use Rattle.lalr.specs.ComputedNonterminals.{uselessNonterminal}
-use Rattle.lalr.specs.ComputedStates.{states, facts, actions, cell, goes}
+use Rattle.lalr.specs.ComputedStates.{states, facts, actions, cell, goes, entering}
 
 -- ---- 13: the first state and, in it, the first terminal where two actions meet, and the two lowest of them
 
@@ -60,11 +60,11 @@ grammarAnswer g =
 abbrev pub cardAnswer : List ℕ → Answer
 cardAnswer c = elim (formFault c) [ suc n ↦ refused (suc n) | zero ↦ grammarAnswer (grammarOf c) ]
 
--- ---- the table of a card: in a terminal's column the one action, in a nonterminal's the next state
+-- ---- the table of a card: the entering symbols; in a terminal's column the one action, in a nonterminal's the next state
 unfoldable pub tableOf : List ℕ → List ℕ
 tableOf c =
     let g = grammarOf c in
     let rows = states g .rows in
     let f = facts g rows in
-    build (length rows) (terminals c) (nonterminals c) (productions c) (leftOf c) (lengthOf c)
+    build (length rows) (terminals c) (nonterminals c) (productions c) (leftOf c) (lengthOf c) (entering g rows)
     (λ q x. cond (ltb x (terminals c)) (cell (actions g rows f q x)) (goes g rows q x))

@@ -9,7 +9,7 @@ use Rattle.areas.specs.Areas.{tableSize, wordsSize, halvesSize}
 use Rattle.lalr.specs.Answer.{Answer, made, refused, uselessAt, conflict, Generated}
 use Rattle.lalr.specs.ComputedAnswer.{cardAnswer, tableOf}
 
--- 1 to 3: "a table area (at least 32,004 numbers of 16 bits) and two work areas (8,192 numbers of 64 bits, 16,384 of 32 bits)", by their lengths
+-- 1 to 3, by the lengths of the areas
 unfoldable pub answerOf : ℕ → ℕ → ℕ → List ℕ → Answer
 answerOf t u v c =
     elim (ltb t tableSize) [
@@ -29,7 +29,7 @@ writes (refused n) = ltb 10 n
 writes (uselessAt x) = false
 writes (conflict q m v w) = true
 
--- "After a table, the rest of the first 32,004 places .. are zero", "after 11 to 13 all three areas are zero over the lengths given"
+-- "After a table, the rest of the first [32,260] places .. are zero", "after 11 to 13 all three areas are zero over the lengths given"
 abbrev pub tableLeft : Answer → List ℕ → List ℕ
 tableLeft made c = tableOf c
 tableLeft (refused n) c = []

@@ -1,13 +1,13 @@
 -- Computed, and not to be believed: the states are the definition's by `states-are` of proofs/Main.antt, the lookaheads by `facts-only` and `facts-all` of FactLaws.antt,
--- the actions by `actions-only` and `actions-all` of CellLaws.antt.
--- Items, closure, advance, the states in the order of the paper, the lookaheads and the actions of a cell.
+-- the actions by `actions-only` and `actions-all` of CellLaws.antt, the entering symbols by `entering-is` of EnteringLaws.antt.
+-- Items, closure, advance, the states in the order of the paper, the lookaheads, the actions of a cell and the entering symbols.
 use mathlib.Core.Bool.{Bool, true, false, _&&_}
 use mathlib.Core.List.{List, [], _∷_, _++_, map}
 use Prim.Native.Nat.{ℕ, zero, suc, _+_, _*_, _-_, _^_, _/_, _%_}
 use lib.ListN.{length, getD, drop}
 use lib.Dec.{eqb, ltb}
 use Rattle.grammar.specs.Grammar.{Grammar}
-use Rattle.sets.specs.Lists.{each}
+use Rattle.sets.specs.Lists.{each, peek}
 use Rattle.sets.specs.Bit.{bit}
 use Rattle.tables.specs.Layout.{reduction, accept}
 use Rattle.lalr.specs.ComputedSets.{withAll, reach, when}
@@ -133,6 +133,15 @@ module _ (g : Grammar) where
       ++ (each g.productions (λ r. when (bit f (fact q (first r + length (g.right r)) a)) (reduction r ∷ []))
       ++ when (bit f (fact q (first g.productions + 1) a)) (accept ∷ []))
 
+-- the cell where these meet: the lowest of them, 0 where there is none
 abbrev pub cell : List ℕ → ℕ
-cell [] = 0
-cell (v ∷ vs) = v
+cell vs = peek vs
+
+-- ---- the entering symbol of state q: the first of the symbols that lead to it, and 0 for state 0, to which none does
+module _ (g : Grammar) where
+  abbrev pub symbolsTo : List (List ℕ) → ℕ → List ℕ
+  symbolsTo rows q = each (length rows) (λ p. each (g.terminals + g.nonterminals) (λ x. when (eqb (goes g rows p x) q) (x ∷ [])))
+
+  abbrev pub entering : List (List ℕ) → ℕ → ℕ
+  entering rows zero = 0
+  entering rows (suc q) = peek (symbolsTo rows (suc q))

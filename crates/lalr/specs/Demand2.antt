@@ -37,7 +37,7 @@ pub record Unchanged (t z w : List ℕ) (out : Generated) : Type 0 where
   pub words : out .words ≡ z
   pub halves : out .halves ≡ w
 
--- "After a table, the rest of the first 32,004 places and both work areas over the lengths just given are zero"; "1 to 10 change no lent area";
+-- "After a table, the rest of the first [32,260] places and both work areas over the lengths just given are zero"; "1 to 10 change no lent area";
 -- "After 11 to 13 all three areas are zero over the lengths given"
 abbrev pub Leaves : Grammar → List ℕ → List ℕ → List ℕ → Generated → Answer → Type 0
 Leaves g t z w out made = (l : List ℕ) × OneTable g l × Cleared l t z w out

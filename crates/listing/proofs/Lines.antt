@@ -9,9 +9,9 @@ use lib.ListN.{length, getD}
 use Rattle.decimal.specs.Digits.{decimalOf}
 use Rattle.decimal.specs.Page.{Page, pageOf, page, wroteByte, wrote}
 use Rattle.decimal.proofs.Written.{wrote-append, wrote-joined, wrote-last, wrote-front}
-use Rattle.tables.specs.Layout.{states, terminals, nonterminals, productions, width, leftAt, lengthAt, headerSize, cellsAt}
-use Rattle.listing.specs.Listing.{spaced, lineOf, rowOf, rowWord, colonWord, tableText, tableWord, leftWord, lengthWord, refusalText, refusedWord}
-use Rattle.listing.specs.Parts.{part, rowFrom, rowsOf}
+use Rattle.tables.specs.Layout.{states, terminals, nonterminals, productions, width, leftAt, lengthAt, headerSize, enteredAt, cellsAt}
+use Rattle.listing.specs.Listing.{spaced, lineOf, rowOf, rowWord, colonWord, tableText, tableWord, leftWord, lengthWord, enteredWord, refusalText, refusedWord}
+use Rattle.listing.specs.Parts.{part, arraysOf, rowFrom, rowsOf}
 use Rattle.listing.proofs.Parts.{part-whole, table-parts}
 
 -- one element more of a part, and none
@@ -55,10 +55,10 @@ pub record Going (t : List ℕ) (count columns : ℕ) (start : Page) (out : List
   pub wide : columns ≡ width t
   pub few : count < 65536
   pub narrow : columns < 131072
-  pub room : from ≤ 131080 + q * 131072
+  pub room : from ≤ 196612 + q * 131072
 
 pub rows-start : (t : List ℕ) (count a b p from : ℕ) (out : List ℕ) (n : ℕ) → (count ≡ getD t 0 0) × (count < 65536) → (a ≡ getD t 1 0) × (a < 65536)
-    → (b ≡ getD t 2 0) × (b < 65536) → (p ≡ getD t 3 0) × (p < 65536) → from ≡ cellsAt p → Going t count (a + b) (pageOf out n) out from n 0 (length out)
+    → (b ≡ getD t 2 0) × (b < 65536) → (p ≡ getD t 3 0) × (p < 65536) → from ≡ cellsAt p count → Going t count (a + b) (pageOf out n) out from n 0 (length out)
 unfolding states terminals nonterminals productions width
 rows-start t count a b p from out n e f g h i = record {
   same = (let k : count - 0 ≡ states t = omega arith in rw k refl);
@@ -99,17 +99,23 @@ pub rows-done : (t : List ℕ) (q n : ℕ) (p : Page) → n ≤ q → wrote p (r
 unfolding rowsOf wrote
 rows-done t q n p h = let k : n - q ≡ 0 = omega arith in rw k refl
 
-pub table-done : (t out : List ℕ) (n x y z : ℕ) (a b c d : Page) → n ≡ getD t 3 0 → x ≡ leftAt 0 → y ≡ lengthAt n 0 → z ≡ headerSize n
-    → a ≡ wrote (pageOf out 0) (lineOf tableWord (part t 0 (x - 0))) → b ≡ wrote a (lineOf leftWord (part t x (y - x))) → c ≡ wrote b (lineOf lengthWord (part t y (z - y)))
-    → d ≡ wrote c (rowsOf t 0 (states t)) → d ≡ page out (tableText t)
-unfolding productions
-table-done t out n x y z a b c d e ex ey ez f g h i =
+pub arrays-done : (t : List ℕ) (n k x y z w : ℕ) (p a b c : Page) → n ≡ getD t 3 0 → k ≡ getD t 0 0 → x ≡ leftAt 0 → y ≡ lengthAt n 0 → z ≡ enteredAt n 0 → w ≡ cellsAt n k
+    → a ≡ wrote p (lineOf leftWord (part t x (y - x))) → b ≡ wrote a (lineOf lengthWord (part t y (z - y))) → c ≡ wrote b (lineOf enteredWord (part t z (w - z)))
+    → c ≡ wrote p (arraysOf t)
+unfolding arraysOf productions states
+arrays-done t n k x y z w p a b c en ek ex ey ez ew f g h =
+    let lefts : y - x ≡ n = omega arith in
+    let lengths : z - y ≡ n = omega arith in
+    let entries : w - z ≡ k = omega arith in
+    let ly : y ≡ leftAt n = omega arith in
+    let hz : z ≡ headerSize n = omega arith in
+    wrote-joined p a c _ _ (rw (lefts, ex, en) at f) (wrote-joined a b c _ _ (rw (lengths, ly, en) at g) (rw (entries, hz, en, ek) at h))
+
+pub table-done : (t out : List ℕ) (x : ℕ) (a b c : Page) → x ≡ leftAt 0 → a ≡ wrote (pageOf out 0) (lineOf tableWord (part t 0 (x - 0)))
+    → b ≡ wrote a (arraysOf t) → c ≡ wrote b (rowsOf t 0 (states t)) → c ≡ page out (tableText t)
+table-done t out x a b c e f g h =
     let j : x - 0 ≡ leftAt 0 = omega arith in
-    let k : y - x ≡ n = omega arith in
-    let l : z - y ≡ n = omega arith in
-    let m : y ≡ leftAt n = omega arith in
-    rw (table-parts t)
-    (wrote-joined _ a d _ _ (rw j at f) (wrote-joined a b d _ _ (rw (k, ex, e) at g) (wrote-joined b c d _ _ (rw (l, m, e) at h) i)) ∙ wrote-front out _)
+    rw (table-parts t) (wrote-joined _ a c _ _ (rw j at f) (wrote-joined a b c _ _ g h) ∙ wrote-front out _)
 
 pub refusal-done : (ns out : List ℕ) (p : Page) → p ≡ wrote (pageOf out 0) (lineOf refusedWord (part ns 0 (length ns - 0))) → p ≡ page out (refusalText ns)
 unfolding refusalText

@@ -9,9 +9,9 @@ use lib.ListN.{length, getD, take, drop}
 use lib.Seq.{drop-cons, take-length}
 use Rattle.sets.specs.Lists.{each}
 use Rattle.sets.proofs.ListLaws.{each-same}
-use Rattle.tables.specs.Layout.{states, terminals, nonterminals, productions, width, leftAt, leftOf, lengthOf, cellOf}
-use Rattle.listing.specs.Listing.{lineOf, rowOf, tableText, tableWord, leftWord, lengthWord}
-use Rattle.listing.specs.Parts.{part, rowFrom, rowsOf}
+use Rattle.tables.specs.Layout.{states, terminals, nonterminals, productions, width, leftAt, headerSize, leftOf, lengthOf, enteredOf, cellOf}
+use Rattle.listing.specs.Listing.{lineOf, rowOf, tableText, tableWord, leftWord, lengthWord, enteredWord}
+use Rattle.listing.specs.Parts.{part, arraysOf, rowFrom, rowsOf}
 
 pub part-append : (t : List ℕ) (i m n : ℕ) → part t i (m + n) ≡ part t i m ++ part t (i + m) n
 unfolding part
@@ -50,18 +50,27 @@ module _ (t : List ℕ) where
   each-row zero = refl
   each-row (suc n) = rw (each-row n) (sym (simp zero-add at (rows-last 0 n)))
 
-  -- the lengths begin where the left sides end
+  rows-text : each (states t) (λ q. rowOf q (each (width t) (λ x. cellOf t q x ∷ []))) ≡ rowsOf t 0 (states t)
+  unfolding cellOf
+  rows-text = each-same (states t) _ _ (λ q h. ap (rowOf q) (each-part t (rowFrom t q) (width t))) ∙ each-row (states t)
+
+  -- the lines of the arrays, and a text behind them
+  pub arrays-lines : (bs : List ℕ) → arraysOf t ++ bs ≡ lineOf leftWord (part t (leftAt 0) (productions t))
+      ++ (lineOf lengthWord (part t (leftAt (productions t)) (productions t)) ++ (lineOf enteredWord (part t (headerSize (productions t)) (states t)) ++ bs))
+  unfolding arraysOf
+  arrays-lines bs = rw (append-assoc, append-assoc) refl
+
   abbrev pub tableParts : List ℕ
-  tableParts =
-      lineOf tableWord (part t 0 (leftAt 0))
-      ++ (lineOf leftWord (part t (leftAt 0) (productions t))
-      ++ (lineOf lengthWord (part t (leftAt (productions t)) (productions t))
-      ++ rowsOf t 0 (states t)))
+  tableParts = lineOf tableWord (part t 0 (leftAt 0)) ++ (arraysOf t ++ rowsOf t 0 (states t))
 
   -- the parts of a table stand one behind the other
   pub table-parts : tableText t ≡ tableParts
-  unfolding tableText states terminals nonterminals productions leftOf lengthOf cellOf part
+  unfolding tableText states terminals nonterminals productions leftOf lengthOf enteredOf part
   table-parts =
-      rw (each-part t 4 (productions t), each-part t (leftAt (productions t)) (productions t), ← each-row (states t))
-      (ap (λ (l : List ℕ). lineOf tableWord (part t 0 (leftAt 0)) ++ (lineOf leftWord (part t (leftAt 0) (productions t)) ++ (lineOf lengthWord (part t (leftAt (productions t)) (productions t)) ++ l)))
-      (each-same (states t) _ _ (λ q h. ap (rowOf q) (each-part t (rowFrom t q) (width t)))))
+      rw (
+        each-part t 4 (productions t),
+        each-part t (leftAt (productions t)) (productions t),
+        each-part t (headerSize (productions t)) (states t),
+        rows-text,
+        arrays-lines (rowsOf t 0 (states t)),
+      ) refl

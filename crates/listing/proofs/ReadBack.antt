@@ -13,12 +13,12 @@ use Rattle.decimal.specs.Digits.{decimalOf}
 use Rattle.decimal.specs.Form.{Separator, blank, line-feed, nil, Numeral, digit, longer, Text, empty, next}
 use Rattle.decimal.proofs.Decimal.{decimal-numeral}
 use Rattle.decimal.proofs.Parse.{led-text}
-use Rattle.tables.specs.Layout.{states, productions, width, sizeOf, leftAt}
-use Rattle.listing.specs.Listing.{spaced, lineOf, rowOf, tableText, tableWord, leftWord, lengthWord, colonWord, refusedWord, refusalText}
+use Rattle.tables.specs.Layout.{states, productions, width, sizeOf, leftAt, headerSize}
+use Rattle.listing.specs.Listing.{spaced, lineOf, rowOf, tableText, tableWord, leftWord, lengthWord, enteredWord, colonWord, refusedWord, refusalText}
 use Rattle.listing.specs.Numbers.{isDigit, runs, numbersIn}
-use Rattle.listing.specs.Parts.{part, rowFrom, rowsOf}
+use Rattle.listing.specs.Parts.{part, arraysOf, rowFrom, rowsOf}
 use Rattle.listing.proofs.Lines.{row-next}
-use Rattle.listing.proofs.Parts.{part-append, part-whole, table-parts}
+use Rattle.listing.proofs.Parts.{part-append, part-whole, arrays-lines, table-parts}
 
 a-digit : (d : ℕ) → d < 10 → isDigit (48 + d) ≡ true
 unfolding isDigit
@@ -86,24 +86,36 @@ rows-back t q (suc n) =
     rw (row-back q (part t (rowFrom t q) (width t)) (rowsOf t (q + 1) n) (rows-fresh t (q + 1) n), rows-back t (q + 1) n, ← row-next t q (rowFrom t q) (width t) refl refl, e)
     (sym (part-append t (rowFrom t q) (width t) (n * width t)))
 
-parts-join : (t : List ℕ) (n m : ℕ) → part t 0 (leftAt 0) ++ (part t (leftAt 0) n ++ (part t (leftAt n) n ++ part t (leftAt n + n) m)) ≡ part t 0 (leftAt (n + (n + m)))
-parts-join t n m = rw (part-append t 0 (leftAt 0) (n + (n + m)), part-append t (leftAt 0) n (n + m), part-append t (leftAt n) n m) refl
+arrays-join : (t rest : List ℕ) (n k : ℕ) → part t (leftAt 0) n ++ (part t (leftAt n) n ++ (part t (headerSize n) k ++ rest)) ≡ part t (leftAt 0) (n + (n + k)) ++ rest
+arrays-join t rest n k =
+    let e : leftAt n + n ≡ headerSize n = omega arith in
+    rw (part-append t (leftAt 0) n (n + k), part-append t (leftAt n) n k, e, append-assoc, append-assoc) refl
+
+-- the left sides, the lengths and the entering symbols
+arrays-back : (t bs : List ℕ) → Fresh bs → runs none (arraysOf t ++ bs) ≡ part t (leftAt 0) (productions t + (productions t + states t)) ++ runs none bs
+unfolding lineOf runs isDigit
+arrays-back t bs f =
+    let n : ℕ = productions t in
+    rw (arrays-lines t bs)
+    (line-back leftWord (part t (leftAt 0) n) _ (λ bs. refl) refl
+    ∙ ap (λ (l : List ℕ). part t (leftAt 0) n ++ l)
+    (line-back lengthWord (part t (leftAt n) n) _ (λ bs. refl) refl
+    ∙ ap (λ (l : List ℕ). part t (leftAt n) n ++ l) (line-back enteredWord (part t (headerSize n) (states t)) bs (λ bs. refl) f))
+    ∙ arrays-join t (runs none bs) n (states t))
 
 -- the text of a table has the table's numbers: as many as its sizes say
 pub table-back : (t : List ℕ) → numbersIn (tableText t) ≡ part t 0 (sizeOf t)
-unfolding sizeOf lineOf runs isDigit
+unfolding sizeOf arraysOf lineOf runs isDigit
 table-back t =
-    let n : ℕ = productions t in
-    let e : rowFrom t 0 ≡ leftAt n + n = rw zero-mul (omega arith) in
-    let f : sizeOf t ≡ leftAt (n + (n + states t * width t)) = omega arith in
+    let n : ℕ = productions t + (productions t + states t) in
+    let m : ℕ = states t * width t in
+    let e : rowFrom t 0 ≡ leftAt n = rw zero-mul (omega arith) in
+    let f : sizeOf t ≡ leftAt (n + m) = omega arith in
     rw (table-parts t)
     (line-back tableWord (part t 0 (leftAt 0)) _ (λ bs. refl) refl
     ∙ ap (λ (l : List ℕ). part t 0 (leftAt 0) ++ l)
-    (line-back leftWord (part t (leftAt 0) n) _ (λ bs. refl) refl
-    ∙ ap (λ (l : List ℕ). part t (leftAt 0) n ++ l)
-    (line-back lengthWord (part t (leftAt n) n) (rowsOf t 0 (states t)) (λ bs. refl) (rows-fresh t 0 (states t))
-    ∙ ap (λ (l : List ℕ). part t (leftAt n) n ++ l) (rows-back t 0 (states t))))
-    ∙ rw (e, f) (parts-join t n (states t * width t)))
+    (arrays-back t (rowsOf t 0 (states t)) (rows-fresh t 0 (states t)) ∙ ap (λ (l : List ℕ). part t (leftAt 0) n ++ l) (rows-back t 0 (states t)))
+    ∙ rw (e, f, part-append t 0 (leftAt 0) (n + m), part-append t (leftAt 0) n m) refl)
 
 -- and so the table itself, where it is all there
 pub table-back-whole : (t : List ℕ) → length t ≡ sizeOf t → numbersIn (tableText t) ≡ t

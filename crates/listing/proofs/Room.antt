@@ -6,9 +6,9 @@ use native.Mathlib.Omega.{arith}
 use lib.ListN.{length, getD, length-append}
 use Rattle.decimal.specs.Digits.{decimalOf}
 use Rattle.decimal.proofs.Decimal.{decimal-length}
-use Rattle.tables.specs.Layout.{states, productions, width, leftAt}
-use Rattle.listing.specs.Listing.{spaced, lineOf, rowOf, tableText, tableWord, leftWord, lengthWord, refusalText, textSize}
-use Rattle.listing.specs.Parts.{part, rowFrom, rowsOf}
+use Rattle.tables.specs.Layout.{states, productions, width, leftAt, headerSize}
+use Rattle.listing.specs.Listing.{spaced, lineOf, rowOf, tableText, tableWord, leftWord, lengthWord, enteredWord, refusalText, textSize}
+use Rattle.listing.specs.Parts.{part, arraysOf, rowFrom, rowsOf}
 use Rattle.listing.proofs.Parts.{table-parts}
 
 -- all numbers are of 16 bits
@@ -58,13 +58,20 @@ rows-room t q (suc n) f l m =
     let i : length (rowsOf t (q + 1) n) ≤ n * 756 = rows-room t (q + 1) n f l (omega arith) in
     simp length-append (omega arith)
 
+arrays-room : (t : List ℕ) → Small t → length (arraysOf t) ≤ 20 + 12 * productions t + 6 * states t
+unfolding arraysOf
+arrays-room t f =
+    let a : length (lineOf leftWord (part t (leftAt 0) (productions t))) ≤ 4 + 6 * productions t + 1 = line-room leftWord t (leftAt 0) (productions t) f in
+    let b : length (lineOf lengthWord (part t (leftAt (productions t)) (productions t))) ≤ 6 + 6 * productions t + 1 = line-room lengthWord t (leftAt (productions t)) (productions t) f in
+    let c : length (lineOf enteredWord (part t (headerSize (productions t)) (states t))) ≤ 7 + 6 * states t + 1 = line-room enteredWord t (headerSize (productions t)) (states t) f in
+    simp length-append (omega arith)
+
 -- the text of a table within the limits
 pub table-room : (t : List ℕ) → Small t → states t ≤ 256 → width t ≤ 124 → productions t ≤ 128 → length (tableText t) ≤ textSize
 table-room t f q c p =
     let a : length (lineOf tableWord (part t 0 (leftAt 0))) ≤ 30 = line-room tableWord t 0 (leftAt 0) f in
-    let b : length (lineOf leftWord (part t (leftAt 0) (productions t))) ≤ 4 + 6 * productions t + 1 = line-room leftWord t (leftAt 0) (productions t) f in
-    let d : length (lineOf lengthWord (part t (leftAt (productions t)) (productions t))) ≤ 6 + 6 * productions t + 1 = line-room lengthWord t (leftAt (productions t)) (productions t) f in
-    let e : length (rowsOf t 0 (states t)) ≤ states t * 756 = rows-room t 0 (states t) f c (omega arith) in
+    let b : length (arraysOf t) ≤ 20 + 12 * productions t + 6 * states t = arrays-room t f in
+    let d : length (rowsOf t 0 (states t)) ≤ states t * 756 = rows-room t 0 (states t) f c (omega arith) in
     rw (table-parts t) (simp length-append (omega arith))
 
 -- and of a refusal with up to five numbers

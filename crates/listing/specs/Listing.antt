@@ -2,10 +2,10 @@
 use Prim.Native.Nat.{ℕ}
 use mathlib.Core.List.{List, [], _∷_, _++_}
 use Rattle.sets.specs.Lists.{each}
-use Rattle.tables.specs.Layout.{states, terminals, nonterminals, productions, width, leftOf, lengthOf, cellOf}
+use Rattle.tables.specs.Layout.{states, terminals, nonterminals, productions, width, leftOf, lengthOf, enteredOf, cellOf}
 use Rattle.decimal.specs.Digits.{decimalOf}
 
--- `table`, `left`, `length`, `row` and a blank, a blank and a colon, `refused`
+-- `table`, `left`, `length`, `entered`, `row` and a blank, a blank and a colon, `refused`
 abbrev pub tableWord : List ℕ
 tableWord = 116 ∷ 97 ∷ 98 ∷ 108 ∷ 101 ∷ []
 
@@ -14,6 +14,9 @@ leftWord = 108 ∷ 101 ∷ 102 ∷ 116 ∷ []
 
 abbrev pub lengthWord : List ℕ
 lengthWord = 108 ∷ 101 ∷ 110 ∷ 103 ∷ 116 ∷ 104 ∷ []
+
+abbrev pub enteredWord : List ℕ
+enteredWord = 101 ∷ 110 ∷ 116 ∷ 101 ∷ 114 ∷ 101 ∷ 100 ∷ []
 
 abbrev pub rowWord : List ℕ
 rowWord = 114 ∷ 111 ∷ 119 ∷ 32 ∷ []
@@ -41,13 +44,15 @@ lineOf w ns = w ++ (spaced ns ++ 10 ∷ [])
 unfoldable pub rowOf : ℕ → List ℕ → List ℕ
 rowOf q ns = rowWord ++ (decimalOf q ++ (colonWord ++ (spaced ns ++ 10 ∷ [])))
 
--- a table: its sizes, left sides, lengths and rows
+-- a table: its sizes, left sides, lengths, entering symbols and rows.
+-- "`maketable` prints a line `entered` and those numbers after `length`"
 unfoldable pub tableText : List ℕ → List ℕ
 tableText t =
     lineOf tableWord (states t ∷ terminals t ∷ nonterminals t ∷ productions t ∷ [])
     ++ (lineOf leftWord (each (productions t) (λ r. leftOf t r ∷ []))
     ++ (lineOf lengthWord (each (productions t) (λ r. lengthOf t r ∷ []))
-    ++ each (states t) (λ q. rowOf q (each (width t) (λ x. cellOf t q x ∷ [])))))
+    ++ (lineOf enteredWord (each (states t) (λ q. enteredOf t q ∷ []))
+    ++ each (states t) (λ q. rowOf q (each (width t) (λ x. cellOf t q x ∷ []))))))
 
 -- a refusal: its number and its values
 unfoldable pub refusalText : List ℕ → List ℕ
@@ -55,4 +60,4 @@ refusalText ns = lineOf refusedWord ns
 
 -- so many bytes hold the text of every table within the limits
 abbrev pub textSize : ℕ
-textSize = 195114
+textSize = 196658

@@ -5,13 +5,13 @@ ghost use lib.ListN.{getD};
 ghost use Rattle.decimal.specs.Page.{pageOf, page, wrote, Used};
 ghost use Rattle.tables.specs.Layout.{states};
 ghost use Rattle.listing.specs.Listing.{spaced, lineOf, rowOf, tableText, refusalText, notACard};
-ghost use Rattle.listing.specs.Parts.{part, rowsOf};
+ghost use Rattle.listing.specs.Parts.{part, arraysOf, rowsOf};
 use decimal::number;
 use decimal::put;
 use decimal::word;
 
 // So many bytes hold the text of every table within the limits.
-pub const TEXT: usize = 195114;
+pub const TEXT: usize = 196658;
 
 // The number at place i, and 0 past the end.
 fn at(s: &[u16], i: usize) -> usize
@@ -54,13 +54,27 @@ fn row(out: &mut [u8], used: usize, q: usize, s: &[u16], from: usize, end: usize
     put(out, d, 10)
 }
 
+// The lines of the arrays: left sides, lengths, entering symbols.
+fn arrays(out: &mut [u8], used: usize, t: &[u16]) -> usize
+    ensures { λ r. ⌜ pageOf (now (out .exit)) r ≡ wrote (pageOf (now (out .entry)) used) (arraysOf (now (t .entry))) ⌝ }
+{
+    let p = at(t, tables::PRODUCTIONS);
+    let lefts = tables::left_at(0);
+    let lengths = tables::length_at(p, 0);
+    let entered = tables::entered_at(p, 0);
+    let cells = tables::cells_at(p, at(t, tables::STATES));
+    let a = line(out, used, b"left", t, lefts, lengths);
+    let b = line(out, a, b"length", t, lengths, entered);
+    line(out, b, b"entered", t, entered, cells)
+}
+
 // The lines of all states.
 fn rows(out: &mut [u8], used: usize, t: &[u16]) -> usize
     ensures { λ r. ⌜ pageOf (now (out .exit)) r ≡ wrote (pageOf (now (out .entry)) used) (rowsOf (now (t .entry)) 0 (states (now (t .entry)))) ⌝ }
 {
     let count = at(t, tables::STATES);
     let width = at(t, tables::TERMINALS) + at(t, tables::NONTERMINALS);
-    let mut from = tables::cells_at(at(t, tables::PRODUCTIONS));
+    let mut from = tables::cells_at(at(t, tables::PRODUCTIONS), count);
     let mut n = used;
     let mut q = 0;
     while q < count {
@@ -76,13 +90,9 @@ pub fn table(out: &mut [u8], t: &[u16]) -> usize
     ensures { λ r. ⌜ pageOf (now (out .exit)) r ≡ page (now (out .entry)) (tableText (now (t .entry))) ⌝ }
     ensures { λ r. ⌜ Used r (now (out .exit)) ⌝ }
 {
-    let p = at(t, tables::PRODUCTIONS);
-    let lefts = tables::left_at(0);
-    let lengths = tables::length_at(p, 0);
-    let a = line(out, 0, b"table", t, 0, lefts);
-    let b = line(out, a, b"left", t, lefts, lengths);
-    let c = line(out, b, b"length", t, lengths, tables::header_size(p));
-    rows(out, c, t)
+    let a = line(out, 0, b"table", t, 0, tables::left_at(0));
+    let b = arrays(out, a, t);
+    rows(out, b, t)
 }
 
 // A refusal's line: its number and its values.

@@ -6,7 +6,8 @@ use mathlib.Core.Logic.{_↔_, _≢_, _⊎_, ⊎-elim}
 use mathlib.Core.List.{List, []}
 use native.Mathlib.Omega.{arith}
 use native.Mathlib.Decide.{ℕ-discrete}
-use lib.ListN.{getD}
+use lib.ListN.{length, getD, set}
+use lib.Seq.{getD-set-same, getD-set-other}
 use borrow.Author.Tests.{lt-ltb}
 use Rattle.sets.specs.Bit.{bit}
 use Rattle.sets.proofs.BitLaws.{bit-zero}
@@ -14,8 +15,9 @@ use Rattle.sets.proofs.HasLaws.{lt-or-ge, below-suc}
 use Rattle.grammar.specs.Card.{terminals, nonterminals, productions}
 use Rattle.grammar.proofs.CardLaws.{well-formed}
 use Rattle.areas.specs.Areas.{tableSize, rowOf}
-use Rattle.areas.proofs.RowLaws.{row-next, row-mono, row-most}
+use Rattle.areas.proofs.RowLaws.{row-next, row-mono, row-most, row-small, rows-fit}
 use Rattle.transitions.specs.Places.{shiftsAt}
+use Rattle.transitions.specs.Area.{enteringOf}
 use Rattle.transitions.specs.Next.{nextOf, Numbered}
 use Rattle.transitions.specs.Data.{Ordered, Holds, Shifts}
 use Rattle.tables.specs.Conflicts.{Single, Lowest, Before, lower-state, lower-symbol}
@@ -27,7 +29,7 @@ use Rattle.cells.proofs.WordLaws.{written-cell}
 use Rattle.cells.proofs.AreaLaws.{covered-same, tabled}
 use Rattle.lookaheads.specs.LooksBack.{LooksBack}
 use Rattle.lookaheads.specs.Joins.{Accepts}
-use Rattle.lookaheads.specs.Outcome.{Stage, Stands, Rows, Named, Answer, Searched, Outcome}
+use Rattle.lookaheads.specs.Outcome.{Stage, Stands, Rows, Named, Answer, Searched, Closed, Outcome}
 use Rattle.lookaheads.specs.declared.Clash.{Clash}
 use Rattle.lookaheads.specs.declared.Clash.the-variants.{Free, At}
 use Rattle.lookaheads.proofs.LookLaws.{accepts-zero, accepts-other, accepts-one}
@@ -44,7 +46,7 @@ row-below c p q x h l = let m = row-mono c p q h in omega arith
 module _ (c w : List ℕ) (k : ℕ) (o : Ordered c w k) where
   -- 256 rows fit
   pub row-fits : (q : ℕ) → q ≤ 256 → rowOf c q ≤ tableSize
-  row-fits q h = row-most c (well-formed c (o .formed)) q 256 h
+  row-fits q h = row-small c (well-formed c (o .formed)) q h
 
   -- and the place of any word of a row
   pub row-room : (q : ℕ) → q < 256 → rowOf c q + 64 ≤ tableSize
@@ -54,6 +56,15 @@ module _ (c w : List ℕ) (k : ℕ) (o : Ordered c w k) where
 pub next-cell : (c t : List ℕ) (n q x : ℕ) → q < n → x < terminals c + nonterminals c → getD t (rowOf c q + x) 0 ≡ nextOf c t n q x
 unfolding nextOf
 next-cell c t n q x h l = rw (lt-ltb q n h, lt-ltb x (terminals c + nonterminals c) l)
+
+-- one entering symbol more
+pub entries-more : (w s : List ℕ) (q i v : ℕ) → i ≡ q → v ≡ enteringOf w q → i < length s → ((p : ℕ) → p < q → getD s p 0 ≡ enteringOf w p)
+    → (p : ℕ) → p < q + 1 → getD (set s i v) p 0 ≡ enteringOf w p
+entries-more w s q i v ei ev room so p h =
+    ⊎-elim
+    (λ (l : p < q). getD-set-other s i p v 0 (λ e. omega arith) ∙ so p l)
+    (λ (e : p ≡ q). ap (λ (x : ℕ). getD (set s i v) x 0) (e ∙ sym ei) ∙ getD-set-same s i v 0 room ∙ ev ∙ ap (enteringOf w) (sym e))
+    (below-suc h)
 
 -- ---- one predicate for another
 
@@ -293,15 +304,19 @@ module _ (c t₀ w z : List ℕ) (n k : ℕ) (stage : Stage c t₀ w z n) (o : O
       let e : q ≡ n = omega arith in
       record { answer = subst (λ (x : ℕ). Rows c (Stands c t₀ w z n k) x t₀ t) e done; long = done .long; beyond = beyond q t h done }
 
-  -- 256 rows and the header fit
-  pub size-fits : rowOf c n ≤ tableSize
-  size-fits = row-fits c w k o n (stage .numbered .most)
+  -- 256 rows, as many entering symbols and the header fit
+  pub size-fits : rowOf c n + n ≤ tableSize
+  size-fits = rows-fit c (well-formed c (o .formed)) n (stage .numbered .most)
 
-  -- the rows, then the header and the zeros
-  pub outcome-free : (t t′ : List ℕ) (r : Clash) → r ≡ Free → Searched c (Stands c t₀ w z n k) n t₀ t r → t′ ≡ tableArea c n t → Outcome c (nextOf c t₀ n) (Stands c t₀ w z n k) n t₀ t′ Free
-  outcome-free t t′ r e s f =
-      let done : Rows c (Stands c t₀ w z n k) n t₀ t = subst (Answer c (Stands c t₀ w z n k) n t₀ t) e (s .answer) in
-      tabled c n (nextOf c t₀ n) (Stands c t₀ w z n k) t₀ t t′ (s .long) (s .beyond) (done .cells) (λ q x h l b. done .others q x h l b ∙ next-cell c t₀ n q x h b) f
+  -- the rows, then all that belongs to the table
+  outcome-free : (e t t′ : List ℕ) → ((q : ℕ) → q < n → getD e q 0 ≡ enteringOf w q) → Searched c (Stands c t₀ w z n k) n t₀ t Free → t′ ≡ tableArea c n e t
+      → Outcome c (nextOf c t₀ n) (Stands c t₀ w z n k) (enteringOf w) n t₀ t′ Free
+  outcome-free e t t′ entries s f =
+      let done : Rows c (Stands c t₀ w z n k) n t₀ t = s .answer in
+      tabled c n (nextOf c t₀ n) (Stands c t₀ w z n k) (enteringOf w) e t₀ t t′ (s .long) (s .beyond) entries (done .cells) (λ q x h l b. done .others q x h l b ∙ next-cell c t₀ n q x h b) f
 
-  pub outcome-met : (q m v u : ℕ) (t t′ : List ℕ) (r : Clash) → r ≡ At q m v u → Searched c (Stands c t₀ w z n k) n t₀ t r → t′ ≡ covered tableSize [] t → Outcome c (nextOf c t₀ n) (Stands c t₀ w z n k) n t₀ t′ (At q m v u)
-  outcome-met q m v u t t′ r e s f = (subst (Answer c (Stands c t₀ w z n k) n t₀ t) e (s .answer), f ∙ covered-same tableSize [] t₀ t (s .long) (s .beyond))
+  -- or zeros
+  pub outcome-is : (e t t′ : List ℕ) (r : Clash) → ((q : ℕ) → q < n → getD e q 0 ≡ enteringOf w q) → Searched c (Stands c t₀ w z n k) n t₀ t r → Closed c e n t t′ r
+      → Outcome c (nextOf c t₀ n) (Stands c t₀ w z n k) (enteringOf w) n t₀ t′ r
+  outcome-is e t t′ Free entries s f = outcome-free e t t′ entries s f
+  outcome-is e t t′ (At q m v u) entries s f = (s .answer, f ∙ covered-same tableSize [] t₀ t (s .long) (s .beyond))

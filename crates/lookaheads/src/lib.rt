@@ -1,19 +1,20 @@
-// The lookaheads of each state, and the cells of the table.
+// The lookaheads of each state, and the table: cells, entering symbols, zeros.
 ghost use mathlib.Core.Path.{_≡_};
 ghost use mathlib.Core.List.{List};
-ghost use Prim.Native.Nat.{ℕ, _+_, _<_, _≤_};
+ghost use Prim.Native.Nat.{ℕ, _+_, _<_, _≤_, _^_};
 ghost use lib.ListN.{length, getD};
 ghost use Rattle.items.specs.Item.{item};
 ghost use Rattle.grammar.specs.Card.{terminals, productions, lengthOf, startOf, formFault};
 ghost use Rattle.areas.specs.Areas.{tableSize, rowOf};
 ghost use Rattle.transitions.specs.Places.{transitionLimit, shiftsAt};
+ghost use Rattle.transitions.specs.Area.{enteringOf};
 ghost use Rattle.transitions.specs.Next.{Numbered};
 ghost use Rattle.transitions.specs.Data.{Ordered, Holds};
 ghost use Rattle.cells.specs.Actions.{Act};
 ghost use Rattle.cells.specs.Words.{Two, Live};
 ghost use Rattle.lookaheads.specs.LooksBack.{LooksBack};
 ghost use Rattle.lookaheads.specs.Joins.{Joins, Key, Keyed, Added, Candidates, Accepts};
-ghost use Rattle.lookaheads.specs.Outcome.{Stage, Stands, Named, Searched, Filled};
+ghost use Rattle.lookaheads.specs.Outcome.{Stage, Stands, Named, Searched, Closed, Filled};
 
 // s and the set of the transition from state p by the nonterminal x, where there is one.
 fn join(w: &[u32], z: &[u64], p: u32, x: u32, s: u64) -> u64
@@ -212,18 +213,28 @@ fn rows(c: &[u16], t: &mut [u16], w: &[u32], z: &[u64], keyed: &[u64; 512], n: u
     Clash::Free
 }
 
-// The cells, the header and the zeros: the table, or the first cell where two actions meet.
-pub fn fill(c: &[u16], t: &mut [u16], w: &mut [u32], z: &mut [u64], n: u16) -> Clash
-    requires { ⌜ Stage (now c) (now t) (now w) (now z) n ⌝ }
-    ensures { λ r. ⌜ Filled (now (c .entry)) (now (t .entry)) (now (w .entry)) (now (z .entry)) n (now (t .exit)) (now (w .exit)) (now (z .exit)) r ⌝ }
+// The symbols under which the n states are entered.
+fn entries(w: &[u32], n: u32) -> [u16; 256]
+    requires { ⌜ (n ≤ 256) × ((q : ℕ) → q < n → enteringOf (now w) q < 2 ^ 16) ⌝ }
+    ensures { λ s. ⌜ ((q : ℕ) → q < n → getD s q 0 ≡ enteringOf (now (w .entry)) q) ⌝ }
 {
-    let keyed = keys(c);
-    let r = rows(c, t, w, z, &keyed, n);
-    cells::clear64(z, 0, areas::WORDS);
-    cells::clear32(w, 0, areas::HALVES);
+    let mut s = [0u16; 256];
+    let mut q: u32 = 0;
+    while q < n {
+        s[card::wide32(q)] = transitions::entering(w, q) as u16;
+        q += 1;
+    }
+    s
+}
+
+// The table of written rows and entering symbols, or zeros where two actions meet.
+fn close(c: &[u16], t: &mut [u16], e: &[u16; 256], n: u16, r: Clash) -> Clash
+    requires { ⌜ (0 < terminals (now c)) × (n ≤ 256) × (rowOf (now c) n + n ≤ tableSize) × (tableSize ≤ length (now t)) ⌝ }
+    ensures { λ s. ⌜ (s ≡ r) × Closed (now (c .entry)) (now (e .entry)) n (now (t .entry)) (now (t .exit)) r ⌝ }
+{
     match r {
         Clash::Free => {
-            cells::finish(c, t, n);
+            cells::finish(c, t, e, n);
             Clash::Free
         }
         Clash::At(q, m, v, u) => {
@@ -231,4 +242,17 @@ pub fn fill(c: &[u16], t: &mut [u16], w: &mut [u32], z: &mut [u64], n: u16) -> C
             Clash::At(q, m, v, u)
         }
     }
+}
+
+// The cells, what stands in front of them and the zeros: the table, or the first cell where two actions meet.
+pub fn fill(c: &[u16], t: &mut [u16], w: &mut [u32], z: &mut [u64], n: u16) -> Clash
+    requires { ⌜ Stage (now c) (now t) (now w) (now z) n ⌝ }
+    ensures { λ r. ⌜ Filled (now (c .entry)) (now (t .entry)) (now (w .entry)) (now (z .entry)) n (now (t .exit)) (now (w .exit)) (now (z .exit)) r ⌝ }
+{
+    let keyed = keys(c);
+    let r = rows(c, t, w, z, &keyed, n);
+    let entered = entries(w, card::wider(n));
+    cells::clear64(z, 0, areas::WORDS);
+    cells::clear32(w, 0, areas::HALVES);
+    close(c, t, &entered, n, r)
 }

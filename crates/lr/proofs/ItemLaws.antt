@@ -2,7 +2,9 @@
 use Prim.Native.Nat.{ℕ, suc, zero, _+_, _≤_, _<_}
 use mathlib.Core.Path.{_≡_, refl, ap, sym, _∙_}
 use mathlib.Core.List.{List, [], _∷_, _++_, append-assoc, append-nil, reverse, reverse-append, reverse-reverse}
-use lib.ListN.{drop, take}
+use lib.ListN.{drop, take, getD}
+use lib.Seq.{getD-drop}
+use native.Mathlib.Nat.{add-zero}
 use native.Mathlib.Omega.{arith}
 use native.Mathlib.Decide.{decLt}
 use Rattle.grammar.specs.Grammar.{Grammar, Symbols, none, more, Formed}
@@ -35,6 +37,10 @@ drop-next (suc d) [] e = absurd (omega (arith, bad e))
     bad : {x : ℕ} {β : List ℕ} → _≡_ {A = List ℕ} [] (x ∷ β) → _≡_ {A = ℕ} 0 1
     bad e = cc
 drop-next (suc d) (y ∷ l) e = drop-next d l e
+
+-- what begins at the dot stands at the dot
+pub first-at : (d : ℕ) (l : List ℕ) {x : ℕ} {β : List ℕ} → drop d l ≡ x ∷ β → getD l d 0 ≡ x
+first-at d l e = ap (λ (i : ℕ). getD l i 0) (sym (add-zero d)) ∙ sym (getD-drop d l 0 0) ∙ ap (λ (k : List ℕ). getD k 0 0) e
 
 pub take-next : (d : ℕ) (l : List ℕ) {x : ℕ} {β : List ℕ} → drop d l ≡ x ∷ β → take (suc d) l ≡ take d l ++ x ∷ []
 take-next zero [] e = cc

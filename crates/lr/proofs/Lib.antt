@@ -5,6 +5,7 @@ pub mod ItemLaws
 pub mod Automaton
 pub mod MachineLaws
 pub mod Paths
+pub mod Entering
 pub mod Unique
 pub mod RelationLaws
 pub mod ErrorPosition

@@ -10,14 +10,15 @@ use Rattle.lr.specs.Items
 use Rattle.lr.proofs.ItemLaws.{AllProductive}
 use Rattle.lr.proofs.Automaton.{Lookahead, walk, merged-viable}
 use Rattle.lr.specs.States.{States}
-use Rattle.lr.specs.Cells.{Action, shifts, reduces, accepts, Cell, Table}
+use Rattle.lr.specs.Cells.{Action, shifts, reduces, accepts, Cell, Entered, start, last, Table}
 use Rattle.tables.specs.Layout as layout
 use Rattle.tables.proofs.LayoutLaws.{one-list, at-most}
 use Rattle.lr.proofs.CellLaws.{action-cell, cell-same}
 use Rattle.lr.proofs.Paths.{state-automaton}
+use Rattle.lr.proofs.Entering.{entered-below}
 use Rattle.lr.proofs.Unique.{count-le, next-same, same, one-right}
 
--- two numberings of a grammar's states have the same actions
+-- two numberings of a grammar's states have the same actions and entering symbols
 module _ (g : Grammar) {count : ℕ} {next : ℕ → ℕ → ℕ} (st : States g count next) {count′ : ℕ} {next′ : ℕ → ℕ → ℕ} (st′ : States g count′ next′) where
   pub same-count : count ≡ count′
   same-count = let a : count ≤ count′ = count-le g count next st count′ next′ st′ in let b : count′ ≤ count = count-le g count′ next′ st′ count next st in omega arith
@@ -34,6 +35,10 @@ module _ (g : Grammar) {count : ℕ} {next : ℕ → ℕ → ℕ} (st : States g
   action-same {q} {m} h (shifts k nz) = let e : next q m ≡ next′ q m = next-same g count next st count′ next′ st′ q m h in rw e (shifts k (rw e at nz))
   action-same h (reduces r k a) = reduces r k (lookahead-same a)
   action-same h (accepts a) = accepts (lookahead-same a)
+
+  pub entered-same : {q x : ℕ} → Entered g next q x → Entered g next′ q x
+  entered-same (start e) = start e
+  entered-same (last γ v e) = last γ v (sym (walk-same v) ∙ e)
 
 -- the sizes of a table
 module _ (g : Grammar) (f : Formed g) (count : ℕ) (next : ℕ → ℕ → ℕ) (l : List ℕ) (t : Table g count next l) where
@@ -76,6 +81,7 @@ module _ (g : Grammar) (f : Formed g) (pr : AllProductive g) (productions-few : 
       at-most l 4096 (wide g f count next l t) (t .long) (omega (arith, z .0)) (omega (arith, z .1)) (omega (arith, z .2)) (omega (arith, z .3))
       (λ r h. (let k : r < g.productions = rw (z .3) at h in let e = t .lefts r k in let b = f.left-below r k in omega (arith, e, b)))
       (λ r h. (let k : r < g.productions = rw (z .3) at h in let e = t .lengths r k in let b = short r k in omega (arith, e, b)))
+      (λ q h. (let b = entered-below g f pr (t .entered q (layout.enteredOf l q) (rw (z .0) at h) .0 refl) in omega arith))
       (λ q x hq hx. cell-small q x (rw (z .0) at hq) (rw (width-is g f count next l t) at hx))
 
 module _ (g : Grammar) (f : Formed g) (count : ℕ) (next : ℕ → ℕ → ℕ) (l : List ℕ) (t : Table g count next l)
@@ -98,12 +104,16 @@ module _ (g : Grammar) (f : Formed g) (count : ℕ) (next : ℕ → ℕ → ℕ)
           let e : g.terminals + (x - g.terminals) ≡ x = omega arith in
           subst (λ (y : ℕ). layout.cellOf l q y ≡ layout.cellOf l′ q y) e (nonterminal-same q (x - g.terminals) hq (omega arith))
 
+  entry-same : (q : ℕ) → q < count → layout.enteredOf l q ≡ layout.enteredOf l′ q
+  entry-same q h = sym (t′ .entered q (layout.enteredOf l q) h .1 (entered-same g (t .states) (t′ .states) (t .entered q (layout.enteredOf l q) h .0 refl)))
+
   pub same-list : l ≡ l′
   same-list =
       let z = t .sizes in
       let z′ = t′ .sizes in
       one-list l l′ (wide g f count next l t) (t .long) (t′ .long) (z .0 ∙ sym (z′ .0)) (z .1 ∙ sym (z′ .1)) (z .2 ∙ sym (z′ .2)) (z .3 ∙ sym (z′ .3))
       (λ r h. (let k : r < g.productions = rw (z .3) at h in t .lefts r k ∙ sym (t′ .lefts r k))) (λ r h. (let k : r < g.productions = rw (z .3) at h in t .lengths r k ∙ sym (t′ .lengths r k)))
+      (λ q h. entry-same q (rw (z .0) at h))
       (λ q x hq hx. symbol-same q x (rw (z .0) at hq) (rw (width-is g f count next l t) at hx))
 
 pub one-table : (g : Grammar) → Formed g → {count : ℕ} {next : ℕ → ℕ → ℕ} {l : List ℕ} → Table g count next l → {count′ : ℕ} {next′ : ℕ → ℕ → ℕ} {l′ : List ℕ} → Table g count′ next′ l′ → l ≡ l′

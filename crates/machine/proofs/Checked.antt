@@ -10,10 +10,10 @@ use lib.Dec.{ltb, leb, eqb}
 use borrow.Author.Tests.{lt-ltb, le-ltb, ne-eqb, ltb-true, leb-true}
 use Rattle.sets.specs.Tests.{between}
 use Rattle.sets.proofs.HasLaws.{lt-or-ge}
-use Rattle.sets.proofs.TestLaws.{and-left, and-right, all-at, between-at, passes}
+use Rattle.sets.proofs.TestLaws.{and-left, and-right, all-at, between-at, passes, neither}
 use Rattle.tables.specs.Layout.{states, terminals, nonterminals, productions, width, cellOf, leftOf, sizeOf}
 use Rattle.tables.specs.Shape.{Shaped}
-use Rattle.machine.specs.Checks.{sizesOk, productionOk, terminalCellOk, cellOk, rowOk, productionsOk, cellsOk, terminalOk, inputOk, refusalOf}
+use Rattle.machine.specs.Checks.{sizesOk, productionOk, terminalCellOk, cellOk, rowOk, productionsOk, cellsOk, entriesOk, terminalOk, inputOk, tableRefusal, inputRefusal, areaRefusal, refusalOf}
 use Rattle.tables.specs.declared.Shape.{Shape}
 use Rattle.tables.proofs.Places.{row-within}
 
@@ -43,6 +43,25 @@ pub record Checked (t : List ℕ) : Type 0 where
   pub whole : sizeOf t ≤ length t
   pub productions-ok : productionsOk t ≡ true
   pub cells-ok : cellsOk t ≡ true
+  pub entries-ok : entriesOk t ≡ true
+
+pub checked : (t : List ℕ) → tableRefusal t ≡ 0 → Checked t
+unfolding tableRefusal
+checked t e =
+    let p1 = passes (leb 4 (length t)) 20 _ e in
+    let p2 = passes (sizesOk t) 21 _ (p1 .1) in
+    let p3 = passes (leb (sizeOf t) (length t)) 20 _ (p2 .1) in
+    let p4 = passes (productionsOk t) 22 _ (p3 .1) in
+    let p5 = passes (cellsOk t) 23 _ (p4 .1) in
+    let p6 = passes (entriesOk t) 43 _ (p5 .1) in
+    record {
+      long = leb-true 4 (length t) (p1 .0);
+      sizes = sized t (p2 .0);
+      whole = leb-true (sizeOf t) (length t) (p3 .0);
+      productions-ok = p4 .0;
+      cells-ok = p5 .0;
+      entries-ok = p6 .0;
+    }
 
 -- what 0 as the refusal says; n is the length of the stack area
 pub record Passed (t l : List ℕ) (n : ℕ) : Type 0 where
@@ -52,28 +71,14 @@ pub record Passed (t l : List ℕ) (n : ℕ) : Type 0 where
   pub places : 0 < n
 
 pub passed : (t l : List ℕ) (n : ℕ) → refusalOf t l n ≡ 0 → Passed t l n
-unfolding refusalOf
+unfolding refusalOf inputRefusal areaRefusal
 passed t l n e =
-    let p1 = passes (leb 4 (length t)) 20 _ e in
-    let p2 = passes (sizesOk t) 21 _ (p1 .1) in
-    let p3 = passes (leb (sizeOf t) (length t)) 20 _ (p2 .1) in
-    let p4 = passes (productionsOk t) 22 _ (p3 .1) in
-    let p5 = passes (cellsOk t) 23 _ (p4 .1) in
-    let p6 = passes (leb (length l) 65535) 24 _ (p5 .1) in
-    let p7 = passes (inputOk t l) 25 _ (p6 .1) in
-    let p8 = passes (ltb 0 n) 26 _ (p7 .1) in
-    record {
-      table = record {
-        long = leb-true 4 (length t) (p1 .0);
-        sizes = sized t (p2 .0);
-        whole = leb-true (sizeOf t) (length t) (p3 .0);
-        productions-ok = p4 .0;
-        cells-ok = p5 .0;
-      };
-      short = leb-true (length l) 65535 (p6 .0);
-      input-ok = p7 .0;
-      places = ltb-true 0 n (p8 .0);
-    }
+    let p1 = neither (tableRefusal t) _ e in
+    let p2 = neither (inputRefusal t l) (areaRefusal n) (p1 .1) in
+    let p3 = passes (leb (length l) 65535) 24 _ (p2 .0) in
+    let p4 = passes (inputOk t l) 25 _ (p3 .1) in
+    let p5 = passes (ltb 0 n) 26 _ (p2 .1) in
+    record { table = checked t (p1 .0); short = leb-true (length l) 65535 (p3 .0); input-ok = p4 .0; places = ltb-true 0 n (p5 .0) }
 
 false-true : {A : Type 0} {b : Bool} → b ≡ false → b ≡ true → A
 false-true e k = let z : _≡_ {A = ℕ} 0 1 = cc in absurd (omega arith)

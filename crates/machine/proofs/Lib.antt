@@ -1,4 +1,6 @@
 pub mod Checked
+pub mod Entries
+pub mod RefusalLaws
 pub mod LrMachineLaws
 pub mod Shifts
 pub mod Settles

@@ -1,11 +1,11 @@
--- "The reader refuses": 21 to 27 in their order.
+-- "The reader refuses": 21 to 24 and 44 for the table, 25 and 26 for the input, 27 for the stack area, in this order.
 use Prim.Native.Nat.{ℕ, _-_}
 use mathlib.Core.List.{List}
 use mathlib.Core.Bool.{Bool, true, false, not, cond, _&&_}
 use lib.ListN.{length, getD}
 use lib.Dec.{ltb, leb, eqb}
-use Rattle.sets.specs.Tests.{allBelow, between, unless}
-use Rattle.tables.specs.Layout.{states, terminals, nonterminals, productions, width, leftOf, lengthOf, accept, cellOf, sizeOf}
+use Rattle.sets.specs.Tests.{allBelow, between, unless, firstRefusal}
+use Rattle.tables.specs.Layout.{states, terminals, nonterminals, productions, width, leftOf, lengthOf, enteredOf, accept, cellOf, sizeOf}
 
 -- 22: the limits of the paper, and Q at least 1
 unfoldable pub sizesOk : List ℕ → Bool
@@ -36,6 +36,23 @@ productionsOk t = allBelow (productions t) (productionOk t)
 unfoldable pub cellsOk : List ℕ → Bool
 cellsOk t = allBelow (states t) (rowOk t)
 
+-- 44: "an entry at least T+N, or not 0 for state 0, or differing from the column of a cell that names the state".
+-- The entry of state q is below T+N
+unfoldable pub entryOk : List ℕ → ℕ → Bool
+entryOk t q = ltb (enteredOf t q) (width t)
+
+-- a cell v of 1 to Q−1 names state v; then the entry of v is the cell's column x. Other cells name none
+unfoldable pub namesOk : List ℕ → ℕ → ℕ → Bool
+namesOk t x v = cond (ltb 0 v && ltb v (states t)) (eqb (enteredOf t v) x) true
+
+-- so for each cell of row q
+unfoldable pub rowNamesOk : List ℕ → ℕ → Bool
+rowNamesOk t q = allBelow (width t) (λ x. namesOk t x (cellOf t q x))
+
+-- none of the three
+unfoldable pub entriesOk : List ℕ → Bool
+entriesOk t = allBelow (states t) (entryOk t) && (eqb (enteredOf t 0) 0 && allBelow (states t) (rowNamesOk t))
+
 -- 26: a terminal of the input is neither 0 nor at least T
 unfoldable pub terminalOk : List ℕ → ℕ → Bool
 terminalOk t b = ltb 0 b && ltb b (terminals t)
@@ -43,14 +60,35 @@ terminalOk t b = ltb 0 b && ltb b (terminals t)
 unfoldable pub inputOk : List ℕ → List ℕ → Bool
 inputOk t l = allBelow (length l) (λ i. terminalOk t (getD l i 0))
 
--- the number of the first refusal that applies, or 0; n is the length of the stack area
-unfoldable pub refusalOf : List ℕ → List ℕ → ℕ → ℕ
-refusalOf t l n =
+-- the number of the first refusal that applies, or 0: of the table, of the input, of a stack area of n places, and of all three
+unfoldable pub tableRefusal : List ℕ → ℕ
+tableRefusal t =
     unless (leb 4 (length t)) 21
     (unless (sizesOk t) 22
     (unless (leb (sizeOf t) (length t)) 21
     (unless (productionsOk t) 23
     (unless (cellsOk t) 24
-    (unless (leb (length l) 65535) 25
-    (unless (inputOk t l) 26
-    (unless (ltb 0 n) 27 0)))))))
+    (unless (entriesOk t) 44 0)))))
+
+unfoldable pub inputRefusal : List ℕ → List ℕ → ℕ
+inputRefusal t l = unless (leb (length l) 65535) 25 (unless (inputOk t l) 26 0)
+
+unfoldable pub areaRefusal : ℕ → ℕ
+areaRefusal n = unless (ltb 0 n) 27 0
+
+unfoldable pub refusalOf : List ℕ → List ℕ → ℕ → ℕ
+refusalOf t l n = firstRefusal (tableRefusal t) (firstRefusal (inputRefusal t l) (areaRefusal n))
+
+-- the numbers of the refusals: just these come, by proofs/RefusalLaws.antt
+pub data TableRefusal : ℕ → Type 0 where
+  table-short : TableRefusal 21
+  sizes-wrong : TableRefusal 22
+  production-wrong : TableRefusal 23
+  cell-wrong : TableRefusal 24
+  entry-wrong : TableRefusal 44
+
+pub data Refusal : ℕ → Type 0 where
+  of-table : {n : ℕ} → TableRefusal n → Refusal n
+  input-long : Refusal 25
+  terminal-wrong : Refusal 26
+  no-stack : Refusal 27

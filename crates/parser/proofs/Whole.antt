@@ -10,7 +10,7 @@ use Rattle.machine.specs.ComputedRun.{run, start, reading}
 use Rattle.machine.proofs.ReadsLaws.{unrefused, refused-is}
 use Rattle.table_checks.specs.Verdict.{refusalNumber}
 use Rattle.table_checks.specs.declared.Refusal.{Refusal}
-use Rattle.table_checks.specs.declared.Refusal.the-variants.{TableShort, SizesWrong, ProductionWrong, CellWrong, InputLong, TerminalWrong, NoStack}
+use Rattle.table_checks.specs.declared.Refusal.the-variants.{TableShort, SizesWrong, ProductionWrong, CellWrong, EntryWrong, InputLong, TerminalWrong, NoStack}
 use Rattle.parser.specs.Answer.{ReadsAs}
 use Rattle.parser.specs.Phases.{Ends}
 use Rattle.parser.specs.declared.Answer.{Answer}
@@ -21,6 +21,7 @@ not-zero TableShort z = omega arith
 not-zero SizesWrong z = omega arith
 not-zero ProductionWrong z = omega arith
 not-zero CellWrong z = omega arith
+not-zero EntryWrong z = omega arith
 not-zero InputLong z = omega arith
 not-zero TerminalWrong z = omega arith
 not-zero NoStack z = omega arith

@@ -25,6 +25,7 @@ fn refused(e: Refusal) -> [u64; 7]
         Refusal::SizesWrong => 22,
         Refusal::ProductionWrong => 23,
         Refusal::CellWrong => 24,
+        Refusal::EntryWrong => 44,
         Refusal::InputLong => 25,
         Refusal::TerminalWrong => 26,
         Refusal::NoStack => 27,

@@ -5,7 +5,7 @@ use Prim.Native.Nat.{ℕ}
 use lib.ListN.{length}
 use Rattle.sets.proofs.ListLaws.{each-same}
 use Rattle.tables.specs.Layout.{states, productions, width, sizeOf}
-use Rattle.tables.proofs.LayoutLaws.{front-states, front-terminals, front-nonterminals, front-productions, front-width, front-left, front-length, front-cell}
+use Rattle.tables.proofs.LayoutLaws.{front-states, front-terminals, front-nonterminals, front-productions, front-width, front-left, front-length, front-entered, front-cell}
 use Rattle.listing.specs.Listing.{rowOf, tableText}
 
 module _ (l pad : List ℕ) (long : length l ≡ sizeOf l) where
@@ -23,5 +23,6 @@ module _ (l pad : List ℕ) (long : length l ≡ sizeOf l) where
         front-width l pad long,
         each-same (productions l) _ _ (λ r h. ap one (front-left l pad long r h)),
         each-same (productions l) _ _ (λ r h. ap one (front-length l pad long r h)),
+        each-same (states l) _ _ (λ q h. ap one (front-entered l pad long q h)),
         each-same (states l) _ _ (λ q h. ap (rowOf q) (each-same (width l) _ _ (λ x k. ap one (front-cell l pad long q x h k)))),
       ) refl

@@ -8,7 +8,7 @@ use native.Mathlib.Numerals.{add-one}
 use native.Mathlib.Omega.{arith}
 use lib.Dec.{leb}
 use borrow.Author.Tests.{leb-true, le-leb}
-use Rattle.sets.specs.Tests.{allBelow, between, unless}
+use Rattle.sets.specs.Tests.{allBelow, between, unless, firstRefusal}
 
 -- ---- both of two tests
 
@@ -107,3 +107,7 @@ between-at lo hi x e = let b = and-both (leb lo x) (leb x hi) e in (leb-true lo 
 pub passes : (b : Bool) (k r : ℕ) → unless b (suc k) r ≡ 0 → (b ≡ true) × (r ≡ 0)
 passes true k r e = (refl, e)
 passes false k r e = absurd (omega arith)
+
+pub neither : (m n : ℕ) → firstRefusal m n ≡ 0 → (m ≡ 0) × (n ≡ 0)
+neither zero n e = (refl, e)
+neither (suc m) n e = absurd (omega arith)

@@ -16,3 +16,8 @@ between lo hi x = leb lo x && leb x hi
 abbrev pub unless : Bool → ℕ → ℕ → ℕ
 unless true n r = r
 unless false n r = n
+
+-- the first of two refusals, 0 being none: m, or n where m is 0
+abbrev pub firstRefusal : ℕ → ℕ → ℕ
+firstRefusal zero n = n
+firstRefusal (suc m) n = suc m

@@ -1,1 +1,3 @@
 pub mod RowLaws
+pub mod EntryLaws
+pub mod VerdictLaws

@@ -68,8 +68,12 @@ module _ (t : List ℕ) (s : Sized t) where
   goto-cell x v h = rw (le-ltb x (terminals t) h)
 
 module _ {t : List ℕ} {z : Shape} (w : Whole t z) (q : ℕ) where
-  from-is : z .cells + q * z .width ≡ rowAt (productions t) (width t) q
+  from-is : z .cells + q * z .width ≡ rowAt (productions t) (states t) (width t) q
   from-is = rw (w .shaped .cells-at, w .shaped .width-is) refl
+
+  pub at : (x : ℕ) → getD t (z .cells + q * z .width + x) 0 ≡ cellOf t q x
+  unfolding cellOf
+  at x = rw from-is
 
   at-cell : (k x i : ℕ) → k ≡ z .cells + q * z .width + x → getD t (k + i) 0 ≡ cellOf t q (x + i)
   unfolding cellOf

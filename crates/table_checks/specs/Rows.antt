@@ -22,6 +22,10 @@ endTest e v = eqb v 0 || (eqb v 4096 || reduction e v)
 unfoldable pub actionTest : ℕ → ℕ → ℕ → Bool
 actionTest q e v = ltb v q || reduction e v
 
+-- a cell that names no state below q: 0, or no state at all
+unfoldable pub unnamed : ℕ → ℕ → Bool
+unnamed q v = eqb v 0 || leb q v
+
 -- a table of allowed sizes that is as long as they say
 pub record Whole (t : List ℕ) (z : Shape) : Type 0 where
   pub shaped : Shaped t z

@@ -6,18 +6,20 @@ ghost use mathlib.Core.List.{List};
 ghost use Prim.Native.Nat.{ℕ, _+_, _<_, _≤_};
 ghost use lib.ListN.{length, getD};
 ghost use lib.Dec.{ltb};
-ghost use Rattle.sets.specs.Tests.{allBelow, between as betweenOf};
+ghost use Rattle.sets.specs.Tests.{allBelow, between as betweenOf, firstRefusal};
 ghost use Rattle.tables.specs.Layout.{states, terminals, productions, lengthAt};
 ghost use Rattle.tables.specs.Shape.{Shaped};
-ghost use Rattle.machine.specs.Checks.{sizesOk, productionOk, productionsOk, rowOk, cellsOk, inputOk, refusalOf};
+ghost use Rattle.machine.specs.Checks.{sizesOk, productionOk, productionsOk, rowOk, cellsOk, entryOk, namesOk, rowNamesOk, entriesOk, inputOk};
+ghost use Rattle.machine.specs.Checks.{tableRefusal, inputRefusal, areaRefusal, refusalOf};
 ghost use Rattle.table_checks.specs.Verdict.{verdictNumber};
-ghost use Rattle.table_checks.specs.Rows.{endTest, actionTest, Whole};
+ghost use Rattle.table_checks.specs.Rows.{endTest, actionTest, unnamed, Whole};
 
 pub enum Refusal {
     TableShort,
     SizesWrong,
     ProductionWrong,
     CellWrong,
+    EntryWrong,
     InputLong,
     TerminalWrong,
     NoStack,
@@ -149,6 +151,121 @@ fn cells_ok(t: &[u16], z: Shape) -> bool
     ok
 }
 
+// Whether the entry of each state is a symbol.
+fn entries_below(t: &[u16], z: Shape) -> bool
+    requires { ⌜ Whole (now t) z ⌝ }
+    ensures { λ r. ⌜ r ≡ allBelow (states (now (t .entry))) (entryOk (now (t .entry))) ⌝ }
+{
+    let entries = z.states;
+    let w = z.width as u16;
+    let mut ok = true;
+    let mut q: usize = 0;
+    while q < entries {
+        ok = both(ok, tables::entered(t, z, q) < w);
+        q += 1;
+    }
+    ok
+}
+
+// Whether none of n cells from place from on names a state below q.
+fn none_named(t: &[u16], from: usize, n: usize, q: u16) -> bool
+    requires { ⌜ from + n ≤ length (now t) ⌝ }
+    ensures { λ r. ⌜ r ≡ allBelow n (λ i. unnamed q (getD (now (t .entry)) (from + i) 0)) ⌝ }
+{
+    let mut ok = true;
+    let mut i: usize = 0;
+    while i < n {
+        let v = t[from + i];
+        ok = both(ok, either(v == 0, q <= v));
+        i += 1;
+    }
+    ok
+}
+
+// Whether cell v of column x names no state, or one that is entered under x.
+fn name_ok(t: &[u16], z: Shape, x: usize, v: u16) -> bool
+    requires { ⌜ Whole (now t) z ⌝ }
+    ensures { λ r. ⌜ r ≡ namesOk (now (t .entry)) x v ⌝ }
+{
+    let q = v as usize;
+    if either(q == 0, z.states <= q) {
+        true
+    } else {
+        tables::entered(t, z, q) as usize == x
+    }
+}
+
+// The same of n cells of a row that begins at place from, column x being the first.
+fn names_ok(t: &[u16], z: Shape, from: usize, x: usize, n: usize) -> bool
+    requires { ⌜ (Whole (now t) z) × (from + (x + n) ≤ length (now t)) ⌝ }
+    ensures { λ r. ⌜ r ≡ allBelow n (λ i. namesOk (now (t .entry)) (x + i) (getD (now (t .entry)) (from + (x + i)) 0)) ⌝ }
+{
+    let mut i: usize = 0;
+    while i < n {
+        let y = x + i;
+        if !name_ok(t, z, y, t[from + y]) {
+            return false;
+        }
+        i += 1;
+    }
+    true
+}
+
+// The same of 8 cells: most name no state, which one comparison of all tells. A second caller would keep it from being inlined.
+fn part_ok(t: &[u16], z: Shape, from: usize, x: usize) -> bool
+    requires { ⌜ (Whole (now t) z) × (from + (x + 8) ≤ length (now t)) ⌝ }
+    ensures { λ r. ⌜ r ≡ allBelow 8 (λ i. namesOk (now (t .entry)) (x + i) (getD (now (t .entry)) (from + (x + i)) 0)) ⌝ }
+{
+    if none_named(t, from + x, 8, z.states as u16) {
+        true
+    } else {
+        names_ok(t, z, from, x, 8)
+    }
+}
+
+// The same of row q, eight cells at a time.
+fn row_names_ok(t: &[u16], z: Shape, q: usize) -> bool
+    requires { ⌜ (Whole (now t) z) × (q < states (now t)) ⌝ }
+    ensures { λ r. ⌜ r ≡ rowNamesOk (now (t .entry)) q ⌝ }
+{
+    let from = z.cells + q * z.width;
+    let n = z.width;
+    let mut x: usize = 0;
+    while x + 8 <= n {
+        if !part_ok(t, z, from, x) {
+            return false;
+        }
+        x += 8;
+    }
+    names_ok(t, z, from, x, n - x)
+}
+
+// The same of all rows. With a way out at the first wrong row the parser's loop, compiled into one function with this, took 3 % more time.
+fn rows_names_ok(t: &[u16], z: Shape) -> bool
+    requires { ⌜ Whole (now t) z ⌝ }
+    ensures { λ r. ⌜ r ≡ allBelow (states (now (t .entry))) (rowNamesOk (now (t .entry))) ⌝ }
+{
+    let rows = z.states;
+    let mut ok = true;
+    let mut q: usize = 0;
+    while q < rows {
+        ok = both(ok, row_names_ok(t, z, q));
+        q += 1;
+    }
+    ok
+}
+
+// Whether 44 does not apply.
+fn entries_ok(t: &[u16], z: Shape) -> bool
+    requires { ⌜ Whole (now t) z ⌝ }
+    ensures { λ r. ⌜ r ≡ entriesOk (now (t .entry)) ⌝ }
+{
+    let below = entries_below(t, z);
+    let first = tables::entered(t, z, 0) == 0;
+    let names = rows_names_ok(t, z);
+    both(below, both(first, names))
+}
+
 // Whether each terminal of the input is at least 1 and below n.
 fn input_ok(l: &[u8], n: u8) -> bool
     ensures { λ r. ⌜ ((t : List ℕ) → terminals t ≡ n → r ≡ inputOk t (now (l .entry))) ⌝ }
@@ -163,9 +280,29 @@ fn input_ok(l: &[u8], n: u8) -> bool
     ok
 }
 
-// The first refusal that applies to a table, an input and a stack area of n places.
-pub fn check(t: &[u16], l: &[u8], n: usize) -> Verdict
-    ensures { λ r. ⌜ verdictNumber r ≡ refusalOf (now (t .entry)) (now (l .entry)) n ⌝ }
+// The first refusal that applies to a table of allowed sizes that is long enough. All are tested before the first is chosen; a good table needs all.
+fn check_parts(t: &[u16], z: Shape) -> Verdict
+    requires { ⌜ Whole (now t) z ⌝ }
+    ensures { λ r. ⌜ verdictNumber r ≡ tableRefusal (now (t .entry)) ⌝ }
+{
+    let productions = productions_ok(t, z);
+    let cells = cells_ok(t, z);
+    let entries = entries_ok(t, z);
+    if !productions {
+        return Verdict::Refused(Refusal::ProductionWrong);
+    }
+    if !cells {
+        return Verdict::Refused(Refusal::CellWrong);
+    }
+    if !entries {
+        return Verdict::Refused(Refusal::EntryWrong);
+    }
+    Verdict::Passed
+}
+
+// The first refusal that applies to a table.
+fn check_table(t: &[u16]) -> Verdict
+    ensures { λ r. ⌜ verdictNumber r ≡ tableRefusal (now (t .entry)) ⌝ }
 {
     if t.len() < 4 {
         return Verdict::Refused(Refusal::TableShort);
@@ -177,20 +314,53 @@ pub fn check(t: &[u16], l: &[u8], n: usize) -> Verdict
     if t.len() < tables::size(t, z) {
         return Verdict::Refused(Refusal::TableShort);
     }
-    if !productions_ok(t, z) {
-        return Verdict::Refused(Refusal::ProductionWrong);
-    }
-    if !cells_ok(t, z) {
-        return Verdict::Refused(Refusal::CellWrong);
-    }
+    check_parts(t, z)
+}
+
+// The first refusal that applies to an input for a table.
+fn check_input(t: &[u16], l: &[u8]) -> Verdict
+    requires { ⌜ tableRefusal (now t) ≡ 0 ⌝ }
+    ensures { λ r. ⌜ verdictNumber r ≡ inputRefusal (now (t .entry)) (now (l .entry)) ⌝ }
+{
     if 65535 < l.len() {
         return Verdict::Refused(Refusal::InputLong);
     }
-    if !input_ok(l, z.terminals as u8) {
+    if !input_ok(l, tables::shape_of(t).terminals as u8) {
         return Verdict::Refused(Refusal::TerminalWrong);
     }
-    if n == 0 {
-        return Verdict::Refused(Refusal::NoStack);
-    }
     Verdict::Passed
+}
+
+// The refusal of a stack area of n places.
+fn check_area(n: usize) -> Verdict
+    ensures { λ r. ⌜ verdictNumber r ≡ areaRefusal n ⌝ }
+{
+    if n == 0 {
+        Verdict::Refused(Refusal::NoStack)
+    } else {
+        Verdict::Passed
+    }
+}
+
+// The first refusal that applies to an input for a table and to a stack area of n places.
+fn check_lent(t: &[u16], l: &[u8], n: usize) -> Verdict
+    requires { ⌜ tableRefusal (now t) ≡ 0 ⌝ }
+    ensures { λ r. ⌜ verdictNumber r ≡ firstRefusal (inputRefusal (now (t .entry)) (now (l .entry))) (areaRefusal n) ⌝ }
+{
+    let v = check_input(t, l);
+    match v {
+        Verdict::Refused(e) => Verdict::Refused(e),
+        Verdict::Passed => check_area(n),
+    }
+}
+
+// The first refusal that applies to a table, an input and a stack area of n places.
+pub fn check(t: &[u16], l: &[u8], n: usize) -> Verdict
+    ensures { λ r. ⌜ verdictNumber r ≡ refusalOf (now (t .entry)) (now (l .entry)) n ⌝ }
+{
+    let v = check_table(t);
+    match v {
+        Verdict::Refused(e) => Verdict::Refused(e),
+        Verdict::Passed => check_lent(t, l, n),
+    }
 }

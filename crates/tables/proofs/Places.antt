@@ -28,7 +28,7 @@ module _ {t : List ℕ} {z : Shape} (s : Shaped t z) where
 
   pub size-fits : (z .states * z .width < 2 ^ 34) × (z .cells < 2 ^ 18)
   size-fits =
-      (below 17 (omega (arith, s .states-fit)) (omega (arith, s .width-fits)), omega (arith, s .cells-at, s .productions-are, s .productions-fit))
+      (below 17 (omega (arith, s .states-fit)) (omega (arith, s .width-fits)), omega (arith, s .cells-at, s .productions-are, s .productions-fit, s .states-are, s .states-fit))
 
   -- the cell of state q and symbol x, in the rows
   pub cell-in : (q x : ℕ) → getD (drop (z .cells) t) (q * z .width + x) 0 ≡ cellOf t q x

@@ -11,7 +11,7 @@ pub record Shaped (t : List ℕ) (z : Shape) : Type 0 where
   pub terminals-are : z .terminals ≡ terminals t
   pub productions-are : z .productions ≡ productions t
   pub width-is : z .width ≡ width t
-  pub cells-at : z .cells ≡ cellsAt (productions t)
+  pub cells-at : z .cells ≡ cellsAt (productions t) (states t)
   pub states-fit : z .states < 2 ^ 16
   pub productions-fit : z .productions < 2 ^ 16
   pub width-fits : z .width < 2 ^ 17

@@ -2,7 +2,7 @@
 ghost use mathlib.Core.Path.{_≡_};
 ghost use Prim.Native.Nat.{_+_, _*_, _<_, _≤_, _^_};
 ghost use lib.ListN.{length, getD, drop};
-ghost use Rattle.tables.specs.Layout.{productions, leftAt, lengthAt, headerSize, cellsAt, leftOf, lengthOf, sizeOf};
+ghost use Rattle.tables.specs.Layout.{productions, leftAt, lengthAt, headerSize, enteredAt, cellsAt, leftOf, lengthOf, enteredOf, sizeOf};
 ghost use Rattle.tables.specs.Shape.{Shaped};
 
 // The places of the sizes: states, terminals, nonterminals, productions.
@@ -30,7 +30,7 @@ pub fn length_at(p: usize, r: usize) -> usize
     4 + p + r
 }
 
-// How many numbers the sizes and both arrays of p productions are.
+// How many numbers the sizes and both arrays of p productions are: the header.
 pub fn header_size(p: usize) -> usize
     requires { ⌜ headerSize p < 2 ^ 64 ⌝ }
     ensures { λ i. ⌜ i ≡ headerSize p ⌝ }
@@ -38,12 +38,20 @@ pub fn header_size(p: usize) -> usize
     4 + 2 * p
 }
 
-// The place of the first cell.
-pub fn cells_at(p: usize) -> usize
-    requires { ⌜ cellsAt p < 2 ^ 64 ⌝ }
-    ensures { λ i. ⌜ i ≡ cellsAt p ⌝ }
+// The place of the entry of state q, behind p productions.
+pub fn entered_at(p: usize, q: usize) -> usize
+    requires { ⌜ enteredAt p q < 2 ^ 64 ⌝ }
+    ensures { λ i. ⌜ i ≡ enteredAt p q ⌝ }
 {
-    header_size(p)
+    header_size(p) + q
+}
+
+// The place of the first cell, behind p productions and n states.
+pub fn cells_at(p: usize, n: usize) -> usize
+    requires { ⌜ cellsAt p n < 2 ^ 64 ⌝ }
+    ensures { λ i. ⌜ i ≡ cellsAt p n ⌝ }
+{
+    entered_at(p, n)
 }
 
 // The sizes of a table, the cells of a row and the place of the first cell.
@@ -67,14 +75,15 @@ pub fn shape_of(t: &[u16]) -> Shape
     requires { ⌜ 4 ≤ length (now t) ⌝ }
     ensures { λ z. ⌜ Shaped (now (t .entry)) z ⌝ }
 {
+    let q = number(t, STATES);
     let n = number(t, TERMINALS);
     let p = number(t, PRODUCTIONS);
     Shape {
-        states: number(t, STATES),
+        states: q,
         terminals: n,
         productions: p,
         width: n + number(t, NONTERMINALS),
-        cells: cells_at(p),
+        cells: cells_at(p, q),
     }
 }
 
@@ -100,6 +109,14 @@ pub fn length_of(t: &[u16], z: Shape, r: usize) -> u16
     ensures { λ v. ⌜ v ≡ lengthOf (now (t .entry)) r ⌝ }
 {
     t[length_at(z.productions, r)]
+}
+
+// The entry of state q: in the maker's tables the symbol under which it is entered.
+pub fn entered(t: &[u16], z: Shape, q: usize) -> u16
+    requires { ⌜ (Shaped (now t) z) × (enteredAt (productions (now t)) q < length (now t)) ⌝ }
+    ensures { λ v. ⌜ v ≡ enteredOf (now (t .entry)) q ⌝ }
+{
+    t[entered_at(z.productions, q)]
 }
 
 // The rows of cells.

@@ -84,7 +84,9 @@ pub fn unmerged(grammar: &Grammar) -> Result<Automaton, Missing> {
     let items = Items::new(grammar);
     let all = lr1::collection(grammar, &items, lr1::closure, 256)?;
     let complete = all.sets.iter().map(|set| lr1::complete(&items, set)).collect();
-    Ok(Automaton { next: all.next, complete })
+    let groups: Vec<usize> = (0..all.sets.len()).collect();
+    let entered = lr1::last_symbols(&all, &groups, groups.len());
+    Ok(Automaton { next: all.next, complete, entered })
 }
 
 /// The definition with another closure.

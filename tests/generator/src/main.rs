@@ -14,6 +14,7 @@
 mod abi;
 mod cards;
 mod check;
+mod entered;
 #[rustfmt::skip]
 #[path = "../../reader/src/guarded.rs"]
 mod guarded;

@@ -10,6 +10,7 @@ use reference::grammar::Grammar;
 use reference::lr0;
 
 use crate::abi::{Generator, Parser};
+use crate::entered;
 use crate::lookaheads::*;
 use crate::pass;
 use crate::relations::{self, Fault};
@@ -20,12 +21,12 @@ pub struct Wrong {
     pub generator: Box<Generator>,
 }
 
-fn right(card: &[u16]) -> Answer {
+pub fn right(card: &[u16]) -> Answer {
     answer(card, Method::Spreading).expect("this way never gives up")
 }
 
 /// Wrong in the answer for a card.
-fn by_card(name: &'static str, of_card: impl Fn(&[u16]) -> Answer + 'static) -> Wrong {
+pub fn by_card(name: &'static str, of_card: impl Fn(&[u16]) -> Answer + 'static) -> Wrong {
     let generator = move |card: &[u16], t: &mut [u16], w: &mut [u64], v: &mut [u32]| {
         generate(card, t, w, v, &of_card)
     };
@@ -52,7 +53,7 @@ fn by_automaton(
 }
 
 /// Wrong in what is made of the automaton.
-fn by_finish(
+pub fn by_finish(
     name: &'static str,
     finish: impl Fn(&Grammar, Automaton) -> Answer + 'static,
 ) -> Wrong {
@@ -60,7 +61,7 @@ fn by_finish(
 }
 
 /// Wrong in the areas left.
-fn by_areas(
+pub fn by_areas(
     name: &'static str,
     left: impl Fn(&Answer, &mut [u16], &mut [u64], &mut [u32]) + 'static,
 ) -> Wrong {
@@ -99,6 +100,7 @@ fn renumbered(found: &Automaton, order: &[usize]) -> Automaton {
     Automaton {
         next: next.iter().map(back).collect(),
         complete: states.iter().map(|&state| found.complete[state].clone()).collect(),
+        entered: states.iter().map(|&state| found.entered[state]).collect(),
     }
 }
 
@@ -121,6 +123,7 @@ fn in_depth(found: &Automaton) -> Automaton {
             .map(|&state| found.next[state].iter().map(|to| to.map(number)).collect())
             .collect(),
         complete: order.iter().map(|&state| found.complete[state].clone()).collect(),
+        entered: order.iter().map(|&state| found.entered[state]).collect(),
     }
 }
 
@@ -210,7 +213,7 @@ fn by_pass(name: &'static str, fault: pass::Fault) -> Wrong {
     })
 }
 
-fn sizes(numbers: &[u16]) -> [usize; 4] {
+pub fn sizes(numbers: &[u16]) -> [usize; 4] {
     [0, 1, 2, 3].map(|at| numbers[at] as usize)
 }
 
@@ -220,8 +223,10 @@ pub fn by_relations(name: &'static str, fault: Fault) -> Wrong {
 }
 
 pub fn generators() -> Vec<Wrong> {
-    let card_a =
-        [4, 3, 1, 2, 3, 3, 2, 1, 0, 0, 1, 2, 1025, 1025, 0, 0, 4096, 3, 0, 0, 1024, 1024, 0, 0];
+    let card_a = [
+        4, 3, 1, 2, 3, 3, 2, 1, 0, 2, 3, 1, 0, 0, 1, 2, 1025, 1025, 0, 0, 4096, 3, 0, 0, 1024,
+        1024, 0, 0,
+    ];
     let mut all = vec![
         // Lookaheads.
         by_automaton("one follow set per nonterminal", follow_of_nonterminal),
@@ -501,6 +506,7 @@ pub fn generators() -> Vec<Wrong> {
             None => generate(card, t, w, v, right),
         }),
     });
+    all.extend(entered::generators());
     all
 }
 
@@ -548,16 +554,23 @@ fn productive(card: &Card) -> Vec<bool> {
 
 /// Tables with a fault, to be found by parsing inputs alone.
 pub fn tables() -> Vec<Wrong> {
-    fn with(name: &'static str, change: fn(&Grammar, &mut [u16])) -> Wrong {
+    fn parts(
+        name: &'static str,
+        change: impl Fn(&Grammar, &mut [u16], &mut [u16]) + 'static,
+    ) -> Wrong {
         by_card(name, move |numbers| match right(numbers) {
             Answer::Table(mut table) => {
                 let grammar = Grammar::new(parse(numbers).expect("a card with a table"));
-                let p = table[3] as usize;
-                change(&grammar, &mut table[4 + 2 * p..]);
+                let [q, _, _, p] = sizes(&table);
+                let (entered, cells) = table[4 + 2 * p..].split_at_mut(q);
+                change(&grammar, entered, cells);
                 Answer::Table(table)
             }
             other => other,
         })
+    }
+    fn with(name: &'static str, change: impl Fn(&Grammar, &mut [u16]) + 'static) -> Wrong {
+        parts(name, move |grammar, _, cells| change(grammar, cells))
     }
     vec![
         with("a shift is missing", |_, cells| {
@@ -582,6 +595,12 @@ pub fn tables() -> Vec<Wrong> {
                     row[0] = ACCEPT;
                 }
             });
+        }),
+        parts("an entering symbol for state 0", |grammar, entered, _| {
+            entered[0] = grammar.card.start() as u16;
+        }),
+        parts("another entering symbol for the last state", |_, entered, _| {
+            entered[entered.len() - 1] ^= 1;
         }),
     ]
 }

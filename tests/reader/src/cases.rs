@@ -1,5 +1,5 @@
-// Random cases: tables of random grammars, random tables that pass the check, damaged ones; inputs,
-// areas with old contents, and step limits.
+// Random cases: tables of random grammars, random tables that pass the check, damaged ones, ones without entering
+// symbols; inputs, areas with old contents, and step limits.
 use crate::lalr::{self, Grammar};
 use crate::reference;
 
@@ -44,6 +44,8 @@ pub struct Case {
     pub stack: Vec<u16>,
     pub list: Vec<u16>,
     pub limit: u32,
+    // The table was made without entering symbols and has not been damaged.
+    pub without_entered: bool,
 }
 
 // A grammar with its table, and the production of least height for each nonterminal.
@@ -148,6 +150,17 @@ fn expressions() -> Grammar {
     Grammar { terminals: 6, nonterminals: 3, left: vec![6, 6, 7, 7, 8, 8], right: right.to_vec() }
 }
 
+// Entering symbols of q states, of w symbols: each symbol but 0 in turn, so that few columns name no state, or by chance.
+fn entering_symbols(r: &mut Random, q: usize, w: usize) -> Vec<u16> {
+    let (in_turn, first) = (!r.one_in(4), r.below(w));
+    let symbol = |i: usize, r: &mut Random| match i {
+        0 => 0,
+        _ if in_turn => 1 + (first + i) % (w - 1),
+        _ => r.below(w),
+    };
+    (0..q).map(|i| symbol(i, r) as u16).collect()
+}
+
 // A random table that passes the check.
 fn foreign(r: &mut Random, table: &mut Vec<u16>) {
     let (q, t, n, p);
@@ -156,19 +169,23 @@ fn foreign(r: &mut Random, table: &mut Vec<u16>) {
     } else if r.one_in(100) {
         (q, t, n, p) = (r.of(&[1, 256]), r.of(&[1, 64]), r.of(&[1, 60]), r.of(&[1, 128]));
     } else {
-        (q, t, n, p) = (r.between(1, 12), r.between(1, 8), r.between(1, 6), r.between(1, 10));
+        (q, t, n, p) = (r.between(1, 14), r.between(1, 6), r.between(1, 4), r.between(1, 10));
     }
+    let entered = entering_symbols(r, q, t + n);
+    let states = |x: usize| (1..q).filter(|&i| entered[i] as usize == x).collect::<Vec<usize>>();
+    let states: Vec<Vec<usize>> = (0..t + n).map(states).collect();
     table.clear();
     table.extend([q, t, n, p].map(|x| x as u16));
     table.extend((0..p).map(|_| r.between(t, t + n - 1) as u16));
     let longest = r.of(&[0, 1, 2, 3, 5, 9, 512]);
     table.extend((0..p).map(|_| r.between(0, longest) as u16));
+    table.extend(entered);
     let (holes, reductions) = (r.of(&[0, 0, 1, 5, 20]), r.of(&[5, 20, 40, 60, 100]));
     for i in 0..q {
         // A reduction in state 0 mostly ends with 35.
         let reductions = if i == 0 && !r.one_in(5) { 0 } else { reductions };
         for x in 0..t + n {
-            let state = if q > 1 { r.between(1, q - 1) } else { 0 };
+            let state = if states[x].is_empty() { 0 } else { r.of(&states[x]) };
             let v = if r.below(100) < holes {
                 0
             } else if x >= t {
@@ -185,11 +202,42 @@ fn foreign(r: &mut Random, table: &mut Vec<u16>) {
     }
 }
 
+// Changes an entering symbol, or a cell to a state that is entered under another symbol. A symbol below T + N of a state
+// that no cell names may be any.
+fn enter_otherwise(r: &mut Random, table: &mut [u16]) {
+    let [q, t, n, p] = [0, 1, 2, 3].map(|i| table[i] as usize);
+    let (w, entered) = (t + n, 4 + 2 * p);
+    let any = entered + r.below(q);
+    let row = entered + q + r.below(q) * w;
+    match r.below(7) {
+        0 => table[any] = r.of(&[w, w, w + 1, 1024, 65535]) as u16,
+        1 => table[entered] = r.between(1, w) as u16,
+        2 => table[any] = r.below(w) as u16,
+        3 => table[any] = w as u16 - 1,
+        4 => table[any] += 256,
+        5 if t > 1 => table[row + r.between(1, t - 1)] = r.below(q) as u16,
+        _ => table[row + r.between(t, w - 1)] = r.below(q) as u16,
+    }
+}
+
+// Takes the entering symbols out of a table; perhaps so many numbers follow that it is long enough.
+fn without_entered(r: &mut Random, table: &mut Vec<u16>) {
+    let (q, entered) = (table[0] as usize, 4 + 2 * table[3] as usize);
+    table.drain(entered..entered + q);
+    let high = r.of(&[1, 1, 2, 5, 65536]);
+    let behind = r.of(&[0, q - 1, q, q, q + 1]);
+    table.extend((0..behind).map(|_| r.below(high) as u16));
+}
+
 // Damages some numbers of a table, or cuts it.
 fn damage(r: &mut Random, table: &mut Vec<u16>) {
     let [q, t, n, p] = [0, 1, 2, 3].map(|i| table[i]);
     if r.one_in(8) {
-        let keep = if r.one_in(2) { r.below(6) } else { table.len() - r.between(1, 3) };
+        let keep = match r.below(3) {
+            0 => r.below(6),
+            1 => table.len() - r.between(1, 3),
+            _ => table.len() - q as usize,
+        };
         table.truncate(keep.min(table.len()));
         if r.one_in(2) {
             return;
@@ -256,6 +304,7 @@ impl Cases {
         let r = &mut self.random;
         let c = &mut self.case;
         self.count += 1;
+        c.without_entered = false;
         if self.count % 2500 == 1 {
             huge(r, c, &self.languages, &mut self.foreign);
             return;
@@ -297,7 +346,15 @@ impl Cases {
             let (at, b) = (r.below(c.input.len() + 1), r.of(&bad));
             c.input.insert(at, b);
         }
+        let mut entered_otherwise = r.one_in(12);
+        if entered_otherwise {
+            enter_otherwise(r, &mut c.table);
+        } else if r.one_in(40) {
+            without_entered(r, &mut c.table);
+            c.without_entered = true;
+        }
         if r.one_in(6) {
+            (entered_otherwise, c.without_entered) = (false, false);
             damage(r, &mut c.table);
         }
         if r.one_in(6) {
@@ -318,6 +375,13 @@ impl Cases {
                 1 => stack = (o.high + off).saturating_sub(1),
                 _ => list = (o.out[3] as usize + off).saturating_sub(1),
             }
+        }
+        // 44 beside 26 and 27.
+        if entered_otherwise && r.one_in(4) {
+            c.input.push(0);
+        }
+        if entered_otherwise && r.one_in(4) {
+            stack = 0;
         }
         fill(r, &mut c.stack, stack);
         fill(r, &mut c.list, list);
@@ -347,8 +411,8 @@ fn huge(r: &mut Random, c: &mut Case, languages: &[Language], spare: &mut Vec<u1
         }
         2 => {
             // Every terminal shifts, and state 2 pushes by the empty production 0 without end.
-            c.table.extend([3, 2, 1, 1, 2, 0]);
-            c.table.extend([1024, r.between(1, 2) as u16, 2]);
+            c.table.extend([3, 2, 1, 1, 2, 0, 0, 1, 2]);
+            c.table.extend([1024, r.of(&[1, 1024]), 2]);
             c.table.extend([4096, 1, 0]);
             c.table.extend([1024, 1024, 2]);
             c.input.resize(n, 1);
@@ -362,6 +426,9 @@ fn huge(r: &mut Random, c: &mut Case, languages: &[Language], spare: &mut Vec<u1
             let t = spare[1] as usize;
             c.input.extend((0..n).map(|_| r.between(1, t - 1) as u8));
         }
+    }
+    if r.one_in(4) {
+        enter_otherwise(r, &mut c.table);
     }
     fill(r, &mut c.stack, 70000);
     fill(r, &mut c.list, 200000);

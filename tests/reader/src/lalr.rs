@@ -100,6 +100,7 @@ pub fn table(g: &Grammar) -> Option<Vec<u16>> {
     let m = Maker::new(g);
     let added = g.left.len();
     let mut states = vec![BTreeMap::from([((added, 0), 1u64)])];
+    let mut entered = vec![0];
     let mut cores: BTreeMap<BTreeSet<Item>, usize> = BTreeMap::new();
     cores.insert(states[0].keys().copied().collect(), 0);
     let mut next: Vec<BTreeMap<usize, usize>> = Vec::new();
@@ -111,6 +112,7 @@ pub fn table(g: &Grammar) -> Option<Vec<u16>> {
             let to = *cores.entry(core).or_insert(states.len());
             if to == states.len() {
                 states.push(kernel);
+                entered.push(x as u16);
             }
             row.insert(x, to);
         }
@@ -138,6 +140,7 @@ pub fn table(g: &Grammar) -> Option<Vec<u16>> {
     let mut out: Vec<u16> = [states.len(), g.terminals, g.nonterminals, added].iter().map(|&x| x as u16).collect();
     out.extend(g.left.iter().map(|&x| x as u16));
     out.extend(g.right.iter().map(|r| r.len() as u16));
+    out.extend(entered);
     for q in 0..states.len() {
         let mut row = vec![0u16; g.terminals + g.nonterminals];
         for (&x, &to) in &next[q] {

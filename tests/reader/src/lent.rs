@@ -20,7 +20,7 @@ pub fn enough(seed: u64, count: u64) -> bool {
             println!("case {k} of seed {seed}: {answer} with {most} places and steps");
             return false;
         }
-        if (21..=27).contains(&answer) {
+        if (21..=27).contains(&answer) || answer == 44 {
             continue;
         }
         ran += 1;

@@ -116,16 +116,17 @@ impl Reader for Archive {
 fn numbers(a: Answer) -> [u64; 7] {
     let (n, c) = match a {
         Answer::Refused { refusal } => {
-            let all = [
-                Refusal::TableShort,
-                Refusal::BadSizes,
-                Refusal::BadProduction,
-                Refusal::BadCell,
-                Refusal::InputLong,
-                Refusal::BadTerminal,
-                Refusal::NoStack,
-            ];
-            return [21 + all.iter().position(|&x| x == refusal).unwrap() as u64, 0, 0, 0, 0, 0, 0];
+            let number = match refusal {
+                Refusal::TableShort => 21,
+                Refusal::BadSizes => 22,
+                Refusal::BadProduction => 23,
+                Refusal::BadCell => 24,
+                Refusal::InputLong => 25,
+                Refusal::BadTerminal => 26,
+                Refusal::NoStack => 27,
+                Refusal::BadEntered => 44,
+            };
+            return [number, 0, 0, 0, 0, 0, 0];
         }
         Answer::NoAction { position, expected, expected_count, counts: c } => {
             let listed = (0..64).filter(|m| expected >> m & 1 == 1);
@@ -143,10 +144,70 @@ fn numbers(a: Answer) -> [u64; 7] {
 }
 
 struct Run {
+    entered: Entered,
     // How often each number came.
     seen: BTreeMap<u64, u64>,
     // The first case that differs, and how.
     difference: Option<(u64, String)>,
+}
+
+// How often the entering symbols of a table were bad, or odd and still good.
+#[derive(Default)]
+struct Entered {
+    // 44 for one of its three reasons alone, and beside 24, 25, 26 and 27.
+    alone: [u64; 3],
+    beside: [u64; 4],
+    // Tables taken where a state that no cell names has an entering symbol, and where it is T + N - 1.
+    unnamed: u64,
+    highest: u64,
+    // Tables made without entering symbols: refused with 21, with 24, with 44, and taken.
+    without: [u64; 4],
+}
+
+impl Entered {
+    fn count(&mut self, c: &Case, answer: u64) {
+        if c.without_entered {
+            self.without[[21, 24, 44].iter().position(|&number| number == answer).unwrap_or(3)] += 1;
+        }
+        if answer == 24 {
+            self.beside[0] += reference::entered_faults(&c.table).contains(&true) as u64;
+        } else if answer == 44 {
+            let faults = reference::entered_faults(&c.table);
+            let terminals = c.table[1] as usize;
+            let beside =
+                [c.input.len() > 65535, c.input.iter().any(|&m| m == 0 || m as usize >= terminals), c.stack.is_empty()];
+            for (way, alone) in self.alone.iter_mut().enumerate() {
+                *alone += (faults[way] && faults.iter().filter(|&&fault| fault).count() == 1) as u64;
+            }
+            for (number, found) in self.beside[1..].iter_mut().zip(beside) {
+                *number += found as u64;
+            }
+        } else if !(21..=23).contains(&answer) {
+            let unnamed = reference::unnamed(&c.table);
+            self.unnamed += unnamed.iter().any(|&symbol| symbol != 0) as u64;
+            self.highest += unnamed.contains(&(c.table[1] + c.table[2] - 1)) as u64;
+        }
+    }
+
+    // What was counted, how often, and how often it must be.
+    fn all(&self) -> [(&'static str, u64, u64); 13] {
+        let ([limit, zero, column], [cell, long, terminal, stack]) = (self.alone, self.beside);
+        [
+            ("44 for an entering symbol from T + N on alone", limit, 100),
+            ("44 for state 0 alone", zero, 100),
+            ("44 for a cell's column alone", column, 100),
+            ("24 beside 44", cell, 100),
+            ("44 beside 25", long, 10),
+            ("44 beside 26", terminal, 100),
+            ("44 beside 27", stack, 100),
+            ("taken with an entering symbol of a state that no cell names", self.unnamed, 100),
+            ("taken with T + N - 1 there", self.highest, 100),
+            ("without entering symbols, refused with 21", self.without[0], 100),
+            ("without entering symbols, refused with 24", self.without[1], 100),
+            ("without entering symbols, refused with 44", self.without[2], 100),
+            ("without entering symbols, but taken or refused otherwise", self.without[3], 10),
+        ]
+    }
 }
 
 // Compares a reader with the reference until a case differs.
@@ -154,6 +215,7 @@ fn compare(reader: &mut dyn Reader, seed: u64, count: u64) -> Run {
     let mut cases = Cases::new(seed);
     let (mut ours, mut theirs) = (Result::default(), Result::default());
     let mut seen = BTreeMap::new();
+    let mut entered = Entered::default();
     for k in 0..count {
         cases.step();
         let c = &cases.case;
@@ -161,6 +223,7 @@ fn compare(reader: &mut dyn Reader, seed: u64, count: u64) -> Run {
         ours.out = reference::parse(&c.table, &c.input, &mut ours.stack, &mut ours.list, c.limit).out;
         reader.read(c, &mut theirs);
         *seen.entry(ours.out[0]).or_insert(0) += 1;
+        entered.count(c, ours.out[0]);
         let what = if ours.out != theirs.out {
             format!("answer {:?}, expected {:?}", theirs.out, ours.out)
         } else if ours.stack != theirs.stack {
@@ -170,9 +233,9 @@ fn compare(reader: &mut dyn Reader, seed: u64, count: u64) -> Run {
         } else {
             continue;
         };
-        return Run { seen, difference: Some((k, what)) };
+        return Run { seen, entered, difference: Some((k, what)) };
     }
-    Run { seen, difference: None }
+    Run { seen, entered, difference: None }
 }
 
 fn from_environment(name: &str, default: u64) -> u64 {
@@ -220,12 +283,17 @@ fn main() {
         std::process::exit(1);
     }
     let mut missing = false;
-    for n in [0].into_iter().chain(21..=27).chain(31..=35) {
+    for n in [0].into_iter().chain(21..=27).chain(31..=35).chain([44]) {
         let least = if n == 25 { 10 } else { 100 };
         if run.seen.get(&n).copied().unwrap_or(0) < least {
             println!("answer {n} came under {least} times");
             missing = true;
         }
+    }
+    for (what, many, least) in run.entered.all() {
+        let few = many < least;
+        println!("{what}: {many}{}", if few { format!(", under {least} times") } else { String::new() });
+        missing |= few;
     }
     std::process::exit(missing as i32);
 }

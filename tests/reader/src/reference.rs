@@ -7,6 +7,40 @@ pub struct Outcome {
     pub high: usize,
 }
 
+// The left sides, lengths, entering symbols and cells of a table that is long enough.
+fn parts(table: &[u16]) -> [&[u16]; 4] {
+    let [states, productions] = [0, 3].map(|i| table[i] as usize);
+    let (left, rest) = table[4..].split_at(productions);
+    let (length, rest) = rest.split_at(productions);
+    let (entered, cells) = rest.split_at(states);
+    [left, length, entered, cells]
+}
+
+// What 44 finds in a table with good sizes that is long enough: an entry at least T + N, one for state 0 that is not 0,
+// one that differs from the column of a cell that names the state.
+pub fn entered_faults(table: &[u16]) -> [bool; 3] {
+    let [states, symbols] = [table[0], table[1] + table[2]].map(usize::from);
+    let [_, _, entered, cells] = parts(table);
+    let column_of = |place: usize| (place % symbols) as u16;
+    let named = cells.iter().take(states * symbols).enumerate().filter(|(_, &v)| v != 0 && (v as usize) < states);
+    [
+        entered.iter().any(|&x| x as usize >= symbols),
+        entered[0] != 0,
+        named.into_iter().any(|(place, &state)| entered[state as usize] != column_of(place)),
+    ]
+}
+
+// The entering symbols of the states that no cell of the table names, state 0 left out.
+pub fn unnamed(table: &[u16]) -> Vec<u16> {
+    let [states, symbols] = [table[0], table[1] + table[2]].map(usize::from);
+    let [_, _, entered, cells] = parts(table);
+    let mut named = vec![false; states];
+    for &v in &cells[..states * symbols] {
+        named.get_mut(v as usize).into_iter().for_each(|state| *state = true);
+    }
+    (1..states).filter(|&state| !named[state]).map(|state| entered[state]).collect()
+}
+
 fn refusal(table: &[u16], input: &[u8], stack_len: usize) -> Option<u64> {
     if table.len() < 4 {
         return Some(21);
@@ -20,11 +54,10 @@ fn refusal(table: &[u16], input: &[u8], stack_len: usize) -> Option<u64> {
         return Some(22);
     }
     let symbols = terminals + nonterminals;
-    if table.len() < 4 + 2 * productions + states * symbols {
+    if table.len() < 4 + 2 * productions + states + states * symbols {
         return Some(21);
     }
-    let (left, rest) = table[4..].split_at(productions);
-    let (length, cells) = rest.split_at(productions);
+    let [left, length, _, cells] = parts(table);
     let is_nonterminal = |&x: &u16| (terminals..symbols).contains(&(x as usize));
     if !left.iter().all(is_nonterminal) || length.iter().any(|&n| n > 512) {
         return Some(23);
@@ -40,6 +73,9 @@ fn refusal(table: &[u16], input: &[u8], stack_len: usize) -> Option<u64> {
         if !row.iter().enumerate().all(|(x, &v)| good(x, v as usize)) {
             return Some(24);
         }
+    }
+    if entered_faults(table).contains(&true) {
+        return Some(44);
     }
     if input.len() > 65535 {
         return Some(25);
@@ -58,14 +94,11 @@ pub fn parse(table: &[u16], input: &[u8], stack: &mut [u16], list: &mut [u16], s
         return Outcome { out: [n, 0, 0, 0, 0, 0, 0], high: 0 };
     }
     let terminals = table[1] as usize;
-    let productions = table[3] as usize;
     let symbols = terminals + table[2] as usize;
-    let row = |q: u16| {
-        let from = 4 + 2 * productions + q as usize * symbols;
-        &table[from..from + symbols]
-    };
-    let left = |r: usize| table[4 + r] as usize;
-    let length = |r: usize| table[4 + productions + r] as usize;
+    let [left, length, _, cells] = parts(table);
+    let row = |q: u16| &cells[q as usize * symbols..][..symbols];
+    let left = |r: usize| left[r] as usize;
+    let length = |r: usize| length[r] as usize;
 
     let mut states = vec![0u16];
     let mut reduced = Vec::new();

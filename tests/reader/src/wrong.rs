@@ -1,12 +1,13 @@
 // A second reader, as one loop over the areas, with a switch for a deliberate fault. Without a fault
 // it is right; each fault must be found by the test.
 
-pub const FAULTS: [&str; 44] = [
+pub const FAULTS: [&str; 72] = [
     "none",
     "21: table of 4 numbers refused",
     "21 before 22",
     "21: numbers behind the table refused",
     "21: one number too few passes",
+    "21: entering symbols not counted",
     "22: 256 states refused",
     "22: 65 terminals pass",
     "22: 61 nonterminals pass",
@@ -21,6 +22,33 @@ pub const FAULTS: [&str; 44] = [
     "24: 1024 + P passes",
     "24: state Q passes for nonterminals",
     "24 before 23",
+    "44: not checked",
+    "44: T + N passes",
+    "44: only states that a cell names below T + N",
+    "44: any symbol passes for state 0",
+    "44: only terminals' columns checked",
+    "44: only nonterminals' columns checked",
+    "44: only the first cell that names a state checked",
+    "44: row 0 not checked",
+    "44: last row not checked",
+    "44: last column not checked",
+    "44: last state not checked",
+    "44: compared in 8 bits",
+    "44: cell 0 of a nonterminal names state 0",
+    "44: cell 0 of a terminal names state 0",
+    "44: states that no cell names refused",
+    "44: states that no cell names must have 0",
+    "44: answered as 24",
+    "44: refusal writes the stack",
+    "44 before 23",
+    "44 before 24",
+    "44 after 25",
+    "44 after 26",
+    "44 after 27",
+    "entering symbols behind the cells",
+    "entering symbols before the lengths",
+    "cells where entering symbols are",
+    "tables without entering symbols known by their length",
     "25: 65536 terminals pass",
     "26: terminal 0 passes",
     "26: terminal T passes",
@@ -48,95 +76,216 @@ pub const FAULTS: [&str; 44] = [
     "depth counted in 16 bits",
 ];
 
+// A table with a switch for faults: where its parts begin.
+struct Table<'a> {
+    fault: &'static str,
+    numbers: &'a [u16],
+    lengths: usize,
+    entered: usize,
+    cells: usize,
+    // Taken for a table without entering symbols.
+    old: bool,
+}
+
+impl<'a> Table<'a> {
+    fn new(fault: &'static str, numbers: &'a [u16]) -> Table<'a> {
+        let [q, m, n, p] = [0, 1, 2, 3].map(|i| numbers[i] as usize);
+        let old = fault == "tables without entering symbols known by their length"
+            && numbers.len() == 4 + 2 * p + q * (m + n);
+        let (lengths, entered, cells) = match fault {
+            "entering symbols behind the cells" => (4 + p, 4 + 2 * p + q * (m + n), 4 + 2 * p),
+            "entering symbols before the lengths" => (4 + p + q, 4 + p, 4 + 2 * p + q),
+            "cells where entering symbols are" => (4 + p, 4 + 2 * p, 4 + 2 * p),
+            _ if old => (4 + p, 4 + 2 * p, 4 + 2 * p),
+            _ => (4 + p, 4 + 2 * p, 4 + 2 * p + q),
+        };
+        Table { fault, numbers, lengths, entered, cells, old }
+    }
+
+    fn is(&self, name: &str) -> bool {
+        self.fault == name
+    }
+
+    fn more(&self, name: &str) -> usize {
+        self.is(name) as usize
+    }
+
+    fn at(&self, i: usize) -> usize {
+        self.numbers.get(i).copied().unwrap_or(0) as usize
+    }
+
+    // Q, T, T + N and P.
+    fn sizes(&self) -> [usize; 4] {
+        [self.at(0), self.at(1), self.at(1) + self.at(2), self.at(3)]
+    }
+
+    fn cell(&self, s: usize, x: usize) -> usize {
+        self.at(self.cells + s * (self.at(1) + self.at(2)) + x)
+    }
+
+    fn left(&self, r: usize) -> usize {
+        self.at(4 + r)
+    }
+
+    fn length(&self, r: usize) -> usize {
+        self.at(self.lengths + r)
+    }
+
+    // 21 and 22.
+    fn bad_sizes(&self) -> u64 {
+        let [q, m, w, p] = self.sizes();
+        let (n, len) = (w - m, self.numbers.len());
+        let counted = !self.old && !self.is("21: entering symbols not counted");
+        let size = 4 + 2 * p + q * counted as usize + q * w;
+        let short = len < size && !(self.is("21: one number too few passes") && len + 1 == size);
+        if self.is("21 before 22") && len < size || self.is("22: 0 states pass as 21") && q == 0 {
+            return 21;
+        }
+        if q == 0
+            || q > 256 - self.more("22: 256 states refused")
+            || m == 0
+            || m > 64 + self.more("22: 65 terminals pass")
+            || n == 0
+            || n > 60 + self.more("22: 61 nonterminals pass")
+            || p == 0
+            || p > 128 + self.more("22: 129 productions pass")
+        {
+            return 22;
+        }
+        let long = self.is("21: numbers behind the table refused") && len > size;
+        21 * (short || long) as u64
+    }
+
+    fn bad_production(&self) -> bool {
+        let [_, m, w, p] = self.sizes();
+        let longest = 512 - self.more("23: length 512 refused");
+        let lowest = if self.is("23: left side may be a terminal") { 1 } else { m };
+        let bad = |r| self.left(r) < lowest || self.left(r) >= w || self.length(r) > longest;
+        !self.is("23: not checked") && (0..p).any(bad)
+    }
+
+    fn bad_cell(&self) -> bool {
+        let [q, m, w, p] = self.sizes();
+        let mut bad = false;
+        for s in 0..q {
+            for x in 0..w {
+                let v = self.cell(s, x);
+                let reduces = v >= 1024 && v < 1024 + p + self.more("24: 1024 + P passes");
+                bad |= !if x >= m {
+                    v < q + self.more("24: state Q passes for nonterminals")
+                } else if x == 0 {
+                    v == 0 || v == 4096 || reduces || self.is("24: shift in column 0 passes") && v < q
+                } else {
+                    v < q || reduces || self.is("24: 4096 passes in every terminal's column") && v == 4096
+                };
+            }
+        }
+        bad && !self.is("24: not checked")
+    }
+
+    // Whether the column of a cell is not the entering symbol of the state that it names; marks the state.
+    fn bad_column(&self, s: usize, x: usize, named: &mut [bool]) -> bool {
+        let [q, m, w, _] = self.sizes();
+        let v = self.cell(s, x);
+        let zero =
+            if x < m { "44: cell 0 of a terminal names state 0" } else { "44: cell 0 of a nonterminal names state 0" };
+        if v >= q || v == 0 && !self.is(zero) {
+            return false;
+        }
+        let before = std::mem::replace(&mut named[v], true);
+        let skipped = before && self.is("44: only the first cell that names a state checked")
+            || x >= m && self.is("44: only terminals' columns checked")
+            || x < m && self.is("44: only nonterminals' columns checked")
+            || s == 0 && self.is("44: row 0 not checked")
+            || s == q - 1 && self.is("44: last row not checked")
+            || x == w - 1 && self.is("44: last column not checked")
+            || v == q - 1 && self.is("44: last state not checked");
+        self.symbol(v) != x && !skipped
+    }
+
+    fn symbol(&self, state: usize) -> usize {
+        self.at(self.entered + state) & if self.is("44: compared in 8 bits") { 0xff } else { 0xffff }
+    }
+
+    fn bad_entered(&self) -> bool {
+        let [q, _, w, _] = self.sizes();
+        let mut named = vec![false; q];
+        let mut bad = false;
+        for s in 0..q {
+            for x in 0..w {
+                bad |= self.bad_column(s, x, &mut named);
+            }
+        }
+        for s in 0..q {
+            let symbol = self.symbol(s);
+            bad |= match (s, named[s]) {
+                (0, _) if self.is("44: any symbol passes for state 0") => symbol >= w,
+                (0, _) => symbol != 0,
+                (_, false) if self.is("44: only states that a cell names below T + N") => false,
+                (_, false) if self.is("44: states that no cell names refused") => true,
+                (_, false) if self.is("44: states that no cell names must have 0") => symbol != 0,
+                _ => {
+                    symbol >= w + self.more("44: T + N passes")
+                        && !(s == q - 1 && self.is("44: last state not checked"))
+                }
+            };
+        }
+        bad && !self.old && !self.is("44: not checked")
+    }
+
+    // The refusals behind 21 and 22, in order.
+    fn order(&self) -> [u64; 6] {
+        match self.fault {
+            "24 before 23" => [24, 23, 44, 25, 26, 27],
+            "44 before 23" => [44, 23, 24, 25, 26, 27],
+            "44 before 24" => [23, 44, 24, 25, 26, 27],
+            "44 after 25" => [23, 24, 25, 44, 26, 27],
+            "44 after 26" => [23, 24, 25, 26, 44, 27],
+            "44 after 27" => [23, 24, 25, 26, 27, 44],
+            "27 before 26" => [23, 24, 44, 25, 27, 26],
+            _ => [23, 24, 44, 25, 26, 27],
+        }
+    }
+
+    // The refusal of a call, 0 where there is none.
+    fn refusal(&self, input: &[u8], stack_len: usize) -> u64 {
+        let sizes = self.bad_sizes();
+        if sizes != 0 {
+            return sizes;
+        }
+        let most = self.at(1) + self.more("26: terminal T passes");
+        let zero = !self.is("26: terminal 0 passes");
+        let applies = |&number: &u64| match number {
+            23 => self.bad_production(),
+            24 => self.bad_cell(),
+            44 => self.bad_entered(),
+            25 => input.len() > 65535 + self.more("25: 65536 terminals pass"),
+            26 => input.iter().any(|&b| b == 0 && zero || b as usize >= most),
+            _ => stack_len == 0,
+        };
+        self.order().into_iter().find(applies).unwrap_or(0)
+    }
+}
+
 pub fn parse(fault: usize, t: &[u16], input: &[u8], stack: &mut [u16], list: &mut [u16], limit: u32) -> [u64; 7] {
     let is = |name: &str| FAULTS[fault] == name;
+    let more = |name: &str| is(name) as usize;
     let refuse = |n: u64| [n, 0, 0, 0, 0, 0, 0];
     if t.len() < 4 || is("21: table of 4 numbers refused") && t.len() == 4 {
         return refuse(21);
     }
-    let (q, m, n, p) = (t[0] as usize, t[1] as usize, t[2] as usize, t[3] as usize);
-    let w = m + n;
-    let size = 4 + 2 * p + q * w;
-    if is("21 before 22") && t.len() < size {
-        return refuse(21);
-    }
-    if q == 0 {
-        return refuse(if is("22: 0 states pass as 21") { 21 } else { 22 });
-    }
-    let more = |name: &str| is(name) as usize;
-    if q > 256 - more("22: 256 states refused")
-        || m == 0
-        || m > 64 + more("22: 65 terminals pass")
-        || n == 0
-        || n > 60 + more("22: 61 nonterminals pass")
-        || p == 0
-        || p > 128 + more("22: 129 productions pass")
-    {
-        return refuse(22);
-    }
-    if t.len() < size && !(is("21: one number too few passes") && t.len() + 1 == size)
-        || is("21: numbers behind the table refused") && t.len() > size
-    {
-        return refuse(21);
-    }
-    let at = |i: usize| t.get(i).copied().unwrap_or(0) as usize;
-    let cell = |s: usize, x: usize| at(4 + 2 * p + s * w + x);
-    let longest = 512 - more("23: length 512 refused");
-    let lowest = if is("23: left side may be a terminal") { 1 } else { m };
-    let mut bad = [0, 0];
-    for r in 0..p {
-        if at(4 + r) < lowest || at(4 + r) >= w || at(4 + p + r) > longest {
-            bad[0] = 23;
-        }
-    }
-    for s in 0..q {
-        for x in 0..w {
-            let v = cell(s, x);
-            let reduces = v >= 1024 && v < 1024 + p + more("24: 1024 + P passes");
-            let good = if x >= m {
-                v < q + more("24: state Q passes for nonterminals")
-            } else if x == 0 {
-                v == 0 || v == 4096 || reduces || is("24: shift in column 0 passes") && v < q
-            } else {
-                v < q || reduces || is("24: 4096 passes in every terminal's column") && v == 4096
-            };
-            if !good {
-                bad[1] = 24;
-            }
-        }
-    }
-    if is("23: not checked") {
-        bad[0] = 0;
-    }
-    if is("24: not checked") {
-        bad[1] = 0;
-    }
-    if is("24 before 23") {
-        bad.swap(0, 1);
-    }
-    for n in bad {
-        if n != 0 {
-            return refuse(n);
-        }
-    }
-    if input.len() > 65535 + more("25: 65536 terminals pass") {
-        return refuse(25);
-    }
-    if is("27 before 26") && stack.is_empty() {
-        return refuse(27);
-    }
-    for &b in input {
-        let zero = b == 0 && !is("26: terminal 0 passes");
-        if zero || b as usize >= m + more("26: terminal T passes") {
-            return refuse(26);
-        }
-    }
-    if stack.is_empty() {
-        if is("27: refusal writes the list") {
+    let table = Table::new(FAULTS[fault], t);
+    let refusal = table.refusal(input, stack.len());
+    if refusal != 0 {
+        if refusal == 27 && is("27: refusal writes the list") {
             list.fill(0);
         }
-        return refuse(27);
+        if refusal == 44 && is("44: refusal writes the stack") {
+            stack.fill(0);
+        }
+        return refuse(if refusal == 44 && is("44: answered as 24") { 24 } else { refusal });
     }
+    let m = table.at(1);
 
     if !is("place 0 not written") {
         stack[0] = 0;
@@ -146,7 +295,7 @@ pub fn parse(fault: usize, t: &[u16], input: &[u8], stack: &mut [u16], list: &mu
     let room = stack.len() - more("33: one place kept free").min(stack.len() - 1);
     let lines = list.len() - more("34: one place too early").min(list.len());
     let end = loop {
-        let a = cell(top, input.get(pos).copied().unwrap_or(0) as usize);
+        let a = table.cell(top, input.get(pos).copied().unwrap_or(0) as usize);
         let out_of_steps = steps as u64 == allowed;
         if is("31 after 32") && out_of_steps {
             break 32;
@@ -170,7 +319,7 @@ pub fn parse(fault: usize, t: &[u16], input: &[u8], stack: &mut [u16], list: &mu
             break 0;
         } else {
             let r = a - 1024;
-            let mut n = at(4 + p + r);
+            let mut n = table.length(r);
             let full = listed >= lines;
             if full && !is("34 after 35") {
                 break 34;
@@ -186,7 +335,7 @@ pub fn parse(fault: usize, t: &[u16], input: &[u8], stack: &mut [u16], list: &mu
                 }
                 n = depth - 1;
             }
-            let next = cell(stack[depth - n - 1] as usize, at(4 + r));
+            let next = table.cell(stack[depth - n - 1] as usize, table.left(r));
             if next == 0 && !is("35: next state 0 pushed") {
                 break 35;
             }
@@ -222,7 +371,7 @@ pub fn parse(fault: usize, t: &[u16], input: &[u8], stack: &mut [u16], list: &mu
         let past = is("31: position one too far at the end") && pos == input.len();
         out[4] = pos as u64 + past as u64;
         for x in 0..m {
-            if cell(top, x) != 0 {
+            if table.cell(top, x) != 0 {
                 out[5] |= if is("31: expected word of 32 bits") { 1u64 << (x % 32) } else { 1u64 << x };
                 out[6] += !(x == 0 && is("31: end marker not counted")) as u64;
             }

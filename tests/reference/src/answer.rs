@@ -7,7 +7,7 @@ use crate::grammar::{useless, Grammar};
 use crate::{lr0, lr1};
 
 /// The lengths the areas must have at least, and over which they are cleared.
-pub const TABLE_LENGTH: usize = 32_004;
+pub const TABLE_LENGTH: usize = 32_260;
 pub const WORK_LENGTH: usize = 8_192;
 pub const WORK2_LENGTH: usize = 16_384;
 
@@ -136,6 +136,7 @@ pub fn table(card: &Card, automaton: &Automaton, cell: impl Fn(usize, usize) -> 
     let mut numbers: Vec<u16> = sizes.iter().map(|&size| size as u16).collect();
     numbers.extend(card.productions.iter().map(|(left, _)| *left as u16));
     numbers.extend(card.productions.iter().map(|(_, right)| right.len() as u16));
+    numbers.extend(automaton.entered.iter().map(|&symbol| symbol as u16));
     for state in 0..states {
         numbers.extend((0..card.terminals).map(|terminal| cell(state, terminal)));
         for nonterminal in card.terminals..card.symbols() {

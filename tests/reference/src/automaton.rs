@@ -13,6 +13,8 @@ pub struct Automaton {
     pub next: Vec<Vec<Option<usize>>>,
     /// The productions complete in each state, ascending, with their lookaheads.
     pub complete: Vec<Vec<(usize, Terminals)>>,
+    /// The entering symbol of each state: the last of every path to it, 0 for state 0.
+    pub entered: Vec<usize>,
 }
 
 /// Why there is no automaton.

@@ -73,6 +73,14 @@ fn states(grammar: &Grammar, items: &Items) -> Result<States, Missing> {
     Ok(all)
 }
 
+/// The symbol before the dot of an item whose dot is not at the left end; 0 in the
+/// first state, which has none.
+fn before_dot(grammar: &Grammar, items: &Items, state: &State) -> usize {
+    let places = state.iter().map(|&item| items.at[item]);
+    let mut symbols = places.filter(|at| at.1 > 0).map(|at| grammar.rights[at.0][at.1 - 1]);
+    symbols.next().unwrap_or(0)
+}
+
 pub fn automaton(grammar: &Grammar) -> Result<Automaton, Missing> {
     let items = Items::new(grammar);
     let States { states, next } = states(grammar, &items)?;
@@ -105,5 +113,6 @@ pub fn automaton(grammar: &Grammar) -> Result<Automaton, Missing> {
             ends.map(|&item| (items.at[item].0, sets[item])).collect()
         })
         .collect();
-    Ok(Automaton { next, complete })
+    let entered = states.iter().map(|state| before_dot(grammar, &items, state)).collect();
+    Ok(Automaton { next, complete, entered })
 }

@@ -132,6 +132,22 @@ pub fn automaton(grammar: &Grammar, bound: usize) -> Result<Automaton, Missing> 
     Ok(merged(grammar, &items, &all))
 }
 
+/// The last symbol of the paths to each group of sets, 0 for the group of the first
+/// set, which no path but the empty one leads to.
+pub fn last_symbols(all: &Collection, group_of: &[usize], groups: usize) -> Vec<usize> {
+    let mut last = vec![None; groups];
+    last[group_of[0]] = Some(0);
+    for row in &all.next {
+        for (symbol, to) in row.iter().enumerate() {
+            if let Some(to) = to {
+                let known = last[group_of[*to]].get_or_insert(symbol);
+                assert_eq!(*known, symbol, "paths with different last symbols meet");
+            }
+        }
+    }
+    last.into_iter().map(|symbol| symbol.expect("a path to each group")).collect()
+}
+
 /// The sets with the same core replaced by their union, and numbered.
 pub fn merged(grammar: &Grammar, items: &Items, all: &Collection) -> Automaton {
     // The group of a set: all sets with its core, merged to their union.
@@ -165,7 +181,9 @@ pub fn merged(grammar: &Grammar, items: &Items, all: &Collection) -> Automaton {
     let symbols = grammar.card.symbols();
     let (order, next) = number(symbols, group_of[0], |group, symbol| rows[group][symbol]);
     let complete = order.iter().map(|&group| complete(items, &unions[group])).collect();
-    Automaton { next, complete }
+    let last = last_symbols(all, &group_of, unions.len());
+    let entered = order.iter().map(|&group| last[group]).collect();
+    Automaton { next, complete, entered }
 }
 
 /// The productions whose items with the dot at the right end are in a set.

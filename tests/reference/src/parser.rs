@@ -1,4 +1,4 @@
-//! The parser of the paper, plainly: refusals 21 to 27, then the machine.
+//! The parser of the paper, plainly: refusals 21 to 27 and 44, then the machine.
 
 /// What a parse answers; `out` has the order of the C boundary.
 #[derive(Clone, Copy, Debug, Default, PartialEq, Eq)]
@@ -39,7 +39,7 @@ struct Table<'a> {
     rows: Vec<&'a [u16]>,
 }
 
-/// Refusals 21 to 24.
+/// Refusals 21 to 24, then 44.
 fn table_of(numbers: &[u16]) -> Result<Table<'_>, u64> {
     if numbers.len() < 4 {
         return Err(21);
@@ -53,7 +53,7 @@ fn table_of(numbers: &[u16]) -> Result<Table<'_>, u64> {
     if !fits {
         return Err(22);
     }
-    if numbers.len() < 4 + 2 * p + q * (t + n) {
+    if numbers.len() < 4 + 2 * p + q + q * (t + n) {
         return Err(21);
     }
     let lefts = &numbers[4..4 + p];
@@ -62,7 +62,8 @@ fn table_of(numbers: &[u16]) -> Result<Table<'_>, u64> {
     if !lefts.iter().all(|&s| is_nonterminal(s)) || lengths.iter().any(|&length| length > 512) {
         return Err(23);
     }
-    let rows: Vec<&[u16]> = numbers[4 + 2 * p..].chunks(t + n).take(q).collect();
+    let (entered, cells) = numbers[4 + 2 * p..].split_at(q);
+    let rows: Vec<&[u16]> = cells.chunks(t + n).take(q).collect();
     for row in &rows {
         for (column, &cell) in row.iter().enumerate() {
             let cell = cell as usize;
@@ -76,6 +77,17 @@ fn table_of(numbers: &[u16]) -> Result<Table<'_>, u64> {
             };
             if !good {
                 return Err(24);
+            }
+        }
+    }
+    if entered[0] != 0 || entered.iter().any(|&symbol| symbol as usize >= t + n) {
+        return Err(44);
+    }
+    for row in &rows {
+        for (column, &cell) in row.iter().enumerate() {
+            let names = (1..q).contains(&(cell as usize));
+            if names && entered[cell as usize] as usize != column {
+                return Err(44);
             }
         }
     }
@@ -175,8 +187,10 @@ pub fn parse(
 mod tests {
     use super::*;
 
-    const A: [u16; 24] =
-        [4, 3, 1, 2, 3, 3, 2, 1, 0, 0, 1, 2, 1025, 1025, 0, 0, 4096, 3, 0, 0, 1024, 1024, 0, 0];
+    const A: [u16; 28] = [
+        4, 3, 1, 2, 3, 3, 2, 1, 0, 2, 3, 1, 0, 0, 1, 2, 1025, 1025, 0, 0, 4096, 3, 0, 0, 1024,
+        1024, 0, 0,
+    ];
 
     fn read(input: &[u8], stack: usize, list: usize, limit: u32) -> ([u64; 7], Vec<u16>) {
         let (mut stack, mut list) = (vec![7; stack], vec![7; list]);
@@ -192,5 +206,31 @@ mod tests {
         assert_eq!(read(&[2, 1], 9, 1, 99).0[..2], [34, 3]);
         assert_eq!(read(&[], 9, 9, 99).0, [31, 0, 1, 0, 0, 4, 1]);
         assert_eq!(read(&[2, 2], 9, 9, 99).0, [31, 1, 2, 0, 1, 3, 2]);
+    }
+
+    /// Card A's table with other numbers at some places, read with a good input.
+    fn damaged(places: &[(usize, u16)]) -> u64 {
+        let mut table = A;
+        places.iter().for_each(|&(place, number)| table[place] = number);
+        parse(&table, &[2, 1], &mut [0; 9], &mut [0; 9], 99).number
+    }
+
+    #[test]
+    fn entering_symbols() {
+        assert_eq!(damaged(&[]), 0);
+        // At least T + N, not 0 for state 0, other than the column of a cell.
+        assert_eq!([damaged(&[(9, 4)]), damaged(&[(9, 65_535)])], [44; 2]);
+        assert_eq!([damaged(&[(8, 1)]), damaged(&[(8, 4)])], [44; 2]);
+        assert_eq!([damaged(&[(9, 1)]), damaged(&[(10, 2)]), damaged(&[(11, 0)])], [44; 3]);
+        assert_eq!([damaged(&[(13, 1)]), damaged(&[(19, 1)])], [44; 2]);
+        // 24 before it.
+        assert_eq!(damaged(&[(8, 1), (12, 1)]), 24);
+        // A state that no cell names: any symbol.
+        let unnamed = |symbol| damaged(&[(21, 0), (11, symbol)]);
+        assert_eq!([0, 1, 2, 3].map(unnamed), [31; 4]);
+        assert_eq!(unnamed(4), 44);
+        // A table of the old form is short of the Q numbers.
+        let old: Vec<u16> = [&A[..8], &A[12..]].concat();
+        assert_eq!(parse(&old, &[2, 1], &mut [0; 9], &mut [0; 9], 99).number, 21);
     }
 }

@@ -10,10 +10,20 @@ fn rows(card: &[u16]) -> Vec<Vec<u16>> {
     match answer(card) {
         Answer::Table(numbers) => {
             let sizes: Vec<usize> = numbers[..4].iter().map(|&n| n as usize).collect();
-            numbers[4 + 2 * sizes[3]..]
+            numbers[4 + 2 * sizes[3] + sizes[0]..]
                 .chunks(sizes[1] + sizes[2])
                 .map(|row| row.to_vec())
                 .collect()
+        }
+        other => panic!("{other:?}"),
+    }
+}
+
+/// The entering symbols of a card's states.
+fn entered(card: &[u16]) -> Vec<u16> {
+    match answer(card) {
+        Answer::Table(numbers) => {
+            numbers[4 + 2 * numbers[3] as usize..][..numbers[0] as usize].to_vec()
         }
         other => panic!("{other:?}"),
     }
@@ -27,9 +37,19 @@ fn refused(card: &[u16]) -> [u64; 5] {
 
 #[test]
 fn card_a() {
-    let table =
-        [4, 3, 1, 2, 3, 3, 2, 1, 0, 0, 1, 2, 1025, 1025, 0, 0, 4096, 3, 0, 0, 1024, 1024, 0, 0];
+    let table = [
+        4, 3, 1, 2, 3, 3, 2, 1, 0, 2, 3, 1, 0, 0, 1, 2, 1025, 1025, 0, 0, 4096, 3, 0, 0, 1024,
+        1024, 0, 0,
+    ];
     assert_eq!(answer(&[3, 1, 2, 3, 3, 3, 2, 1, 3, 1, 2]), Answer::Table(table.to_vec()));
+}
+
+#[test]
+fn entering_symbols() {
+    assert_eq!(entered(&[3, 1, 2, 3, 3, 3, 2, 1, 3, 1, 2]), [0, 2, 3, 1]);
+    assert_eq!(entered(&[1, 1, 1, 0, 1, 0]), [0, 1]);
+    // S -> 1 S 2 | empty: state 1 is entered from states 0 and 1 by 1
+    assert_eq!(entered(&[3, 1, 2, 3, 3, 3, 3, 0, 1, 3, 2]), [0, 1, 3, 3, 2]);
 }
 
 #[test]

@@ -31,7 +31,7 @@ at-requires-4 : tie.Need-at-requires-4 Inv-loop μ-loop
 at-requires-4 c κs = search needs
 
 cells-at-requires : tie.Need-cells-at-requires Inv-loop μ-loop
-cells-at-requires c κs = omega (arith, c .at4 .ensures .1)
+cells-at-requires c κs = search needs
 
 loop-holds : tie.Need-loop-holds Inv-loop μ-loop
 loop-holds c =

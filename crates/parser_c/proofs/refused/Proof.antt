@@ -29,6 +29,9 @@ enum-told-6 c = search needs
 enum-told-7 : tie.Need-enum-told-7
 enum-told-7 c = search needs
 
+enum-told-8 : tie.Need-enum-told-8
+enum-told-8 c = search needs
+
 returns : tie.Need-returns
 unfolding covered
 returns c = ap (λ (e : Refusal). padded (refusalNumber e ∷ [])) (sym (c .enum-told .given .1))
@@ -57,6 +60,10 @@ returns-7 : tie.Need-returns-7
 unfolding covered
 returns-7 c = ap (λ (e : Refusal). padded (refusalNumber e ∷ [])) (sym (c .enum-told7 .given .1))
 
+returns-8 : tie.Need-returns-8
+unfolding covered
+returns-8 c = ap (λ (e : Refusal). padded (refusalNumber e ∷ [])) (sym (c .enum-told8 .given .1))
+
 pub refused-spec : {M : Type 1} → statement M
 refused-spec =
     tie.close
@@ -68,10 +75,12 @@ refused-spec =
     enum-told-5
     enum-told-6
     enum-told-7
+    enum-told-8
     returns
     returns-2
     returns-3
     returns-4
     returns-5
     returns-6
-    returns-7)
+    returns-7
+    returns-8)

@@ -8,7 +8,7 @@ use borrow.Author.Needs.{needs}
 use Rattle.grammar.proofs.CardLaws.{well-formed}
 use Rattle.states.proofs.TableLaws.{table-start, table-more, rowed-whole, rowed-stopped}
 use Rattle.areas.specs.Areas.{rowOf}
-use Rattle.areas.proofs.RowLaws.{row-next, row-most, row-fits}
+use Rattle.areas.proofs.RowLaws.{row-next, row-small, row-fits}
 use Rattle.states.specs.States.{Table, finished, beyond}
 use Rattle.states.proofs.rows.Statement.{statement}
 use Rattle.states.proofs.rows.Tie as tie
@@ -40,7 +40,7 @@ add-width c =
 row-requires : tie.Need-row-requires Inv-loop μ-loop
 row-requires c κs =
     let b8 = c .before .before .before .before .before .before .before .before in
-    row-most (now (b8 .args .c)) (well-formed _ (b8 .pre .0)) 0 256 (omega arith)
+    row-small (now (b8 .args .c)) (well-formed _ (b8 .pre .0)) 0 (omega arith)
 
 loop-holds : tie.Need-loop-holds Inv-loop μ-loop
 loop-holds c =

@@ -4,7 +4,7 @@ use native.Mathlib.Omega.{arith}
 use denote.Ref.{now}
 use Rattle.grammar.proofs.CardLaws.{well-formed}
 use Rattle.areas.specs.Areas.{tableSize, rowOf}
-use Rattle.areas.proofs.RowLaws.{row-most}
+use Rattle.areas.proofs.RowLaws.{row-small}
 use borrow.Author.Needs.{needs}
 use Rattle.transition_lists.proofs.row_at.Statement.{statement}
 use Rattle.transition_lists.proofs.row_at.Tie as tie
@@ -12,7 +12,7 @@ use Rattle.transition_lists.proofs.row_at.Tie as tie
 place-small : (c : tie.After-wide32) → rowOf (now (c .before .before .args .c)) (c .wide32 .result) ≤ tableSize
 place-small c =
     let start = c .before .before in
-    row-most _ (well-formed (now (start .args .c)) (start .pre .0)) _ 256 (omega (arith, c .wide32 .ensures, start .pre .1))
+    row-small _ (well-formed (now (start .args .c)) (start .pre .0)) _ (omega (arith, c .wide32 .ensures, start .pre .1))
 
 returns : tie.Need-returns
 returns c =

@@ -58,6 +58,21 @@ pub unsafe extern "C" fn sidumza_parse(
     from_raw_parts_mut(out, 7).copy_from_slice(&outcome.out());
 }
 
+#[no_mangle]
+pub extern "C" fn sidumza_lowest(expected: u64) -> u32 {
+    (0..64).find(|m| expected >> m & 1 == 1).unwrap_or(64)
+}
+
+/// # Safety
+/// `out` must have 64 places.
+#[no_mangle]
+pub unsafe extern "C" fn sidumza_terminals(expected: u64, out: *mut u8) -> usize {
+    let out = from_raw_parts_mut(out, 64);
+    out.fill(0);
+    let terminals = (0..64).filter(|m| expected >> m & 1 == 1);
+    terminals.zip(out).map(|(terminal, place)| *place = terminal).count()
+}
+
 unsafe fn slice<'a, T>(from: *const T, length: usize) -> &'a [T] {
     if length == 0 {
         &[]

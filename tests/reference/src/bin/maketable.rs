@@ -36,11 +36,13 @@ fn printed(text: &[u8]) -> String {
             format!("refused {}\n", words(&all))
         }
         Answer::Table(table) => {
-            let p = table[3] as usize;
+            let (q, p) = (table[0] as usize, table[3] as usize);
             let mut lines = format!("table {}\n", words(&table[..4]));
             lines += &format!("left {}\n", words(&table[4..4 + p]));
             lines += &format!("length {}\n", words(&table[4 + p..4 + 2 * p]));
-            let rows = table[4 + 2 * p..].chunks((table[1] + table[2]) as usize);
+            let (entered, cells) = table[4 + 2 * p..].split_at(q);
+            lines += &format!("entered {}\n", words(entered));
+            let rows = cells.chunks((table[1] + table[2]) as usize);
             for (state, row) in rows.enumerate() {
                 lines += &format!("row {state} : {}\n", words(row));
             }
