@@ -1,7 +1,7 @@
 -- What the checks and the state between steps give each call of the loop.
 use mathlib.Core.Path.{_≡_, sym, ap, _∙_}
 use mathlib.Core.List.{List, _∷_, [], _++_}
-use Prim.Native.Nat.{ℕ, _+_, _-_, _*_, _^_, _<_, _≤_, zero-le}
+use Prim.Native.Nat.{ℕ, zero, suc, _+_, _-_, _*_, _^_, _<_, _≤_, zero-le}
 use native.Mathlib.Omega.{arith}
 use lib.ListN.{length, set, getD, drop, length-set}
 use lib.Seq.{getD-set-same}
@@ -19,6 +19,12 @@ use Rattle.parser.specs.Answer.{countsOf, numbers}
 use Rattle.parser.specs.Phases.{reached}
 use Rattle.parser.specs.declared.Counts.{Counts}
 use Rattle.parser.specs.declared.Answer.the-variants.{NoAction}
+
+-- where a terminal stands, the input has not ended
+before-end : (l : List ℕ) (i : ℕ) → 0 < getD l i 0 → i < length l
+before-end [] i h = absurd (omega arith)
+before-end (x ∷ l) zero h = omega arith
+before-end (x ∷ l) (suc i) h = let k = before-end l i h in omega arith
 
 -- the stack starts with state 0
 pub held-start : {t l cs li : List ℕ} {z : Shape} (st : List ℕ) → Passed t l (length st) → Shaped t z → cs ≡ drop (z .cells) t
@@ -80,13 +86,14 @@ module _ {t cs st li : List ℕ} {z : Shape} {s : State} (h : Held t cs st li z 
       unfolding actionOf
       action-is = rw (← h .top-is) cell-is
 
-      pub steppable : {a : ℕ} → x < 2 ^ 16 → (x ≡ 0 → ⊥) → s .steps ≤ a → (s .steps ≡ a → ⊥) → a < 2 ^ 32 → Steppable t cs st li z s x
+      -- a limit of w bits that is not reached leaves a step to count in w bits
+      pub steppable : {w a : ℕ} → x < 2 ^ 16 → (x ≡ 0 → ⊥) → s .steps ≤ a → (s .steps ≡ a → ⊥) → a < 2 ^ w → Steppable w t cs st li z s x
       steppable b nz most more f = record {
         held = h;
         fits = b;
         shift-in = λ k.
-            rw (h .shaped .states-are, cell-is)
-            (shift-passed (h .checked) (s .top) (getD l (s .position) 0) top-in (next-passed p (s .position)) (rw (← cell-is) (omega (arith, nz))) (rw (← cell-is) k) .0);
+            let sh = shift-passed (h .checked) (s .top) (getD l (s .position) 0) top-in (next-passed p (s .position)) (rw (← cell-is) (omega (arith, nz))) (rw (← cell-is) k) in
+            (rw (h .shaped .states-are, cell-is) (sh .0), omega (arith, p .short, before-end l (s .position) (sh .1)));
         reduction-in = λ k y.
             rw cell-is
             (reduce-passed (h .checked) (s .top) (getD l (s .position) 0) top-in (next-passed p (s .position)) (rw (← cell-is) k) (λ e. y (cell-is ∙ e)));

@@ -19,7 +19,7 @@ ghost use Rattle.parser.specs.Terminals.{Lists};
 
 // The steps made, the stack places in use and the productions listed.
 pub struct Counts {
-    pub steps: u32,
+    pub steps: u64,
     pub depth: usize,
     pub listed: usize,
 }
@@ -79,7 +79,7 @@ fn stopped(e: Stop, s: State) -> Answer
 }
 
 // The reading of an input by a table, both checked.
-fn run(table: &[u16], input: &[u8], stack: &mut [u16], list: &mut [u16], step_limit: u32) -> Answer
+fn run(table: &[u16], input: &[u8], stack: &mut [u16], list: &mut [u16], step_limit: u64) -> Answer
     requires { ⌜ refusalOf (now table) (now input) (length (now stack)) ≡ 0 ⌝ }
     ensures { λ r. ⌜ Ends (now (table .entry)) (runs (now (table .entry)) (now (input .entry)) «step_limit» (start (now (stack .entry)) (now (list .entry)))) r (now (stack .exit)) (now (list .exit)) ⌝ }
 {
@@ -122,7 +122,7 @@ pub fn parse(
     input: &[u8],
     stack: &mut [u16],
     list: &mut [u16],
-    step_limit: u32,
+    step_limit: u64,
 ) -> Answer
     ensures { λ r. ⌜ ReadsAs (reading (now (table .entry)) (now (input .entry)) (now (stack .entry)) (now (list .entry)) «step_limit») r (now (stack .exit)) (now (list .exit)) ⌝ }
 {

@@ -51,21 +51,21 @@ pub restep : {t cs st li : List ℕ} {z : Shape} {s : State} {x : Next} {m m′ 
 restep e y = record { next = y .next ∙ e; held = y .held }
 
 module _ {t cs st li : List ℕ} {z : Shape} {s : State} where
-  pub kept-shift : Held t cs st li z s → (a : ℕ) → a < z .states → s .depth < length st
+  pub kept-shift : Held t cs st li z s → (a : ℕ) → a < z .states → s .position < 65535 → s .depth < length st
       → Held t cs (set st (s .depth) a) li z (record { depth = s .depth + 1; listed = s .listed; position = s .position + 1; steps = s .steps + 1; top = a })
-  kept-shift h a b k = record {
+  kept-shift h a b p k = record {
     checked = h .checked;
     shaped = h .shaped;
     rows = h .rows;
     deep = omega arith;
     within = rw length-set (omega arith);
     room = h .room;
-    passed = omega (arith, h .passed);
+    passed = omega (arith, p);
     states-in = states-more st (s .depth) a (z .states) k b (h .states-in);
     top-is = top-more st (s .depth) a k;
   }
 
-  module _ {r n under : ℕ} (g : Reducible t cs st li z s r n under) where
+  module _ {w r n under : ℕ} (g : Reducible w t cs st li z s r n under) where
     h : Held t cs st li z s
     h = g .held
 
@@ -101,7 +101,7 @@ module _ {t cs st li : List ℕ} {z : Shape} {s : State} where
               deep = omega arith;
               within = rw length-set (omega arith);
               room = rw length-set (omega arith);
-              passed = omega (arith, h .passed);
+              passed = h .passed;
               states-in = states-more p (s .depth - n) q (z .states) low qb
                   (λ i b. rw (ep, popped-at st (s .depth) n i (omega arith) b) (h .states-in i (omega arith)));
               top-is = top-more p (s .depth - n) q low;

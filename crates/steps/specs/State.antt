@@ -14,6 +14,10 @@ use Rattle.steps.specs.declared.Stop.the-variants.{StackFull, ListFull, 
 use Rattle.steps.specs.declared.Next.{Next}
 use Rattle.steps.specs.declared.Next.the-variants.{Ended, Moved, Accepted}
 
+-- how wide the code's count of steps is; no law knows it, and beside the types of the code nothing else does
+abbrev pub countBits : ℕ
+countBits = 64
+
 abbrev pub machineOf : List ℕ → List ℕ → State → machine.Machine
 machineOf st li s = record { stack = st; list = li; depth = s .depth; listed = s .listed; position = s .position; steps = s .steps }
 
@@ -36,7 +40,7 @@ pub record Held (t cs st li : List ℕ) (z : Shape) (s : State) : Type 0 where
   pub deep : 1 ≤ s .depth
   pub within : s .depth ≤ length st
   pub room : s .listed ≤ length li
-  pub passed : s .position ≤ s .steps
+  pub passed : s .position ≤ 65535
   pub states-in : (i : ℕ) → i < s .depth → getD st i 0 < z .states
   pub top-is : s .top ≡ machine.topOf st (s .depth)
 
@@ -51,19 +55,19 @@ pub record Stepped (t cs : List ℕ) (z : Shape) (s : State) (st li : List ℕ) 
   pub next : nextOf st li s x ≡ m
   pub held : HeldNext t cs st li z s x
 
--- production r can be listed, and its n symbols popped, which leaves the state under on top
-pub record Reducible (t cs st li : List ℕ) (z : Shape) (s : State) (r n under : ℕ) : Type 0 where
+-- production r can be listed, its n symbols popped, which leaves the state under on top, and the step counted in w bits
+pub record Reducible (w : ℕ) (t cs st li : List ℕ) (z : Shape) (s : State) (r n under : ℕ) : Type 0 where
   pub held : Held t cs st li z s
   pub production : r < productions t
   pub less : n < s .depth
   pub under-is : under ≡ machine.topOf st (s .depth - n)
   pub free : s .listed < length li
-  pub more : s .steps + 1 < 2 ^ 32
+  pub more : s .steps + 1 < 2 ^ w
 
--- the cell a asks for a step, and a step may be made
-pub record Steppable (t cs st li : List ℕ) (z : Shape) (s : State) (a : ℕ) : Type 0 where
+-- the cell a asks for a step, a shift only before the end of an input, and the step can be made and counted in w bits
+pub record Steppable (w : ℕ) (t cs st li : List ℕ) (z : Shape) (s : State) (a : ℕ) : Type 0 where
   pub held : Held t cs st li z s
   pub fits : a < 2 ^ 16
-  pub shift-in : a < 1024 → a < z .states
+  pub shift-in : a < 1024 → (a < z .states) × (s .position < 65535)
   pub reduction-in : 1024 ≤ a → (a ≡ 4096 → ⊥) → a - 1024 < productions t
-  pub more : s .steps + 1 < 2 ^ 32
+  pub more : s .steps + 1 < 2 ^ w

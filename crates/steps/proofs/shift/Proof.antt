@@ -29,7 +29,7 @@ same-length c = search needs
 
 returns : tie.Need-returns
 unfolding shifted
-returns c = λ t cs li z h b. record { next = rw (lt-ltb _ _ (c .before .before .if1 .taken)); held = (kept-shift h (c .before .before .before .args .a) b (c .before .before .if1 .taken), refl) }
+returns c = λ t cs li z h b. record { next = rw (lt-ltb _ _ (c .before .before .if1 .taken)); held = (kept-shift h (c .before .before .before .args .a) b (c .before .before .before .pre .1) (c .before .before .if1 .taken), refl) }
 
 returns-2 : tie.Need-returns-2
 unfolding shifted

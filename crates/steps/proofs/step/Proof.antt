@@ -6,7 +6,7 @@ use Rattle.steps.proofs.step.Statement.{statement}
 use Rattle.steps.proofs.step.Tie as tie
 
 shift-requires : tie.Need-shift-requires
-shift-requires c κs = search needs
+shift-requires c κs = let p = c .before .before .before .before .before .before .pre in (p .fits, p .shift-in (c .before .if1 .taken) .1, p .more)
 
 add-counted : tie.Need-add-counted
 add-counted c = search needs
@@ -18,7 +18,7 @@ same-length : tie.Need-same-length
 same-length c = search needs
 
 returns : tie.Need-returns
-returns c = restep (sym (moved-shift _ _ _ (c .before .before .before .before .if1 .taken))) (c .before .before .shift .ensures _ _ _ _ (c .before .before .before .before .before .before .before .before .before .pre .held) (c .before .before .before .before .before .before .before .before .before .pre .shift-in (c .before .before .before .before .if1 .taken)))
+returns c = restep (sym (moved-shift _ _ _ (c .before .before .before .before .if1 .taken))) (c .before .before .shift .ensures _ _ _ _ (c .before .before .before .before .before .before .before .before .before .pre .held) (c .before .before .before .before .before .before .before .before .before .pre .shift-in (c .before .before .before .before .if1 .taken) .0))
 
 returns-2 : tie.Need-returns-2
 returns-2 c = record { next = sym (moved-accept _ _ _ (c .before .before .if1 .left) (c .before .if2 .taken)); held = tt }
