@@ -11,3 +11,4 @@ pub mod ReadsLaws
 pub mod ReportLaws
 pub mod Spent
 pub mod Widths
+pub mod Endless
