@@ -1,0 +1,25 @@
+#!/bin/sh
+# "One proof serves either width": proves the steps and the reader again with limits and counts of 32 bits. Only the
+# types in the code and countBits, which tells the contracts, change; no definition, law or proof does.
+# What is proved already in target/ is not proved again.
+set -eu
+cd "$(dirname "$0")/../.."
+out=target/width
+rm -rf $out
+mkdir -p $out/crates $out/target
+needed="sets tables machine table_checks steps parser"
+for crate in $needed; do
+    grep "^$crate:" crates.txt >>$out/crates.txt
+    cp -r crates/$crate $out/crates/
+    rm -rf $out/crates/$crate/must-fail
+done
+for kept in rlib stamp; do
+    [ ! -d target/$kept ] || cp -r target/$kept $out/target/
+done
+sed -i "s/\bsteps: u64/steps: u32/; s/\bstep_limit: u64/step_limit: u32/" $out/crates/steps/src/lib.rt $out/crates/parser/src/lib.rt
+sed -i "s/^countBits = 64$/countBits = 32/" $out/crates/steps/specs/State.antt
+changed=$(diff -r crates $out/crates | grep -c '^> ') || true
+[ "$changed" = 5 ] || { echo "width: $changed lines changed, not 5"; exit 1; }
+cd $out
+rt check parser >check.log 2>&1 || { grep -m 3 error check.log; echo "width: not proved with counts of 32 bits"; exit 1; }
+echo "width: steps and reader proved with counts of 32 bits"
