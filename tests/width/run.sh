@@ -1,6 +1,6 @@
 #!/bin/sh
-# "One proof serves either width": proves the steps and the reader again with limits and counts of 32 bits. Only the
-# types in the code and countBits, which tells the contracts, change; no definition, law or proof does.
+# "One proof serves either width": proves the steps and the reader again with limits and counts of 32 bits. Only five
+# types in the code change; no contract, definition or proof does.
 # What is proved already in target/ is not proved again.
 set -eu
 cd "$(dirname "$0")/../.."
@@ -16,8 +16,7 @@ done
 for kept in rlib stamp; do
     [ ! -d target/$kept ] || cp -r target/$kept $out/target/
 done
-sed -i "s/\bsteps: u64/steps: u32/; s/\bstep_limit: u64/step_limit: u32/" $out/crates/steps/src/lib.rt $out/crates/parser/src/lib.rt
-sed -i "s/^countBits = 64$/countBits = 32/" $out/crates/steps/specs/State.antt
+sed -i 's/\b\(left\|limit\|steps\|step_limit\): u64/\1: u32/' $out/crates/steps/src/lib.rt $out/crates/parser/src/lib.rt
 changed=$(diff -r crates $out/crates | grep -c '^> ') || true
 [ "$changed" = 5 ] || { echo "width: $changed lines changed, not 5"; exit 1; }
 cd $out

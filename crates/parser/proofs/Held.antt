@@ -26,11 +26,11 @@ before-end [] i h = absurd (omega arith)
 before-end (x ∷ l) zero h = omega arith
 before-end (x ∷ l) (suc i) h = let k = before-end l i h in omega arith
 
--- the stack starts with state 0
-pub held-start : {t l cs li : List ℕ} {z : Shape} (st : List ℕ) → Passed t l (length st) → Shaped t z → cs ≡ drop (z .cells) t
-    → Held t cs (set st 0 0) li z (record { depth = 1; listed = 0; position = 0; steps = 0; top = 0 })
+-- the stack starts with state 0, and the whole limit is left
+pub held-start : {t l cs li : List ℕ} {z : Shape} (st : List ℕ) (a : ℕ) → Passed t l (length st) → Shaped t z → cs ≡ drop (z .cells) t
+    → Held t cs (set st 0 0) li z (record { depth = 1; listed = 0; position = 0; left = a; limit = a; top = 0 })
 unfolding topOf
-held-start st p s e =
+held-start st a p s e =
     let first : getD (set st 0 0) 0 0 ≡ 0 = getD-set-same st 0 0 0 (p .places) in
     record {
       checked = p .table;
@@ -40,6 +40,7 @@ held-start st p s e =
       within = rw length-set (p .places);
       room = zero-le;
       passed = zero-le;
+      most = omega arith;
       states-in = λ i h.
           let i0 : i ≡ 0 = omega arith in
           rw (i0, first, s .states-are) (p .table .sizes .states-are .0);
@@ -59,12 +60,12 @@ module _ {t cs st li : List ℕ} {z : Shape} {s : State} (h : Held t cs st li z 
   unfolding topOf
   top-in = rw (h .top-is, ← h .shaped .states-are) (h .states-in (s .depth - 1) (let d = h .deep in omega arith))
 
-  -- the expected set is read from the top state's row
-  pub row-in : (z .terminals ≤ 64) × (s .top * z .width + z .terminals ≤ length cs)
+  -- the expected set is read from the top state's row, and the steps are counted
+  pub row-in : (z .terminals ≤ 64) × (s .top * z .width + z .terminals ≤ length cs) × (s .left ≤ s .limit)
   row-in =
       let k = h .checked .sizes .terminals-are in
       let w : s .top * z .width + (terminals t - 1) < length cs = rw (h .rows) (cell-within (h .checked) (h .shaped) (s .top) (terminals t - 1) top-in (last-terminal (h .checked))) in
-      (omega (arith, h .shaped .terminals-are), omega (arith, h .shaped .terminals-are))
+      (omega (arith, h .shaped .terminals-are), omega (arith, h .shaped .terminals-are), h .most)
 
   pub wrong-is : {c : Counts} {w n : ℕ} → countsOf c ≡ reached s → w ≡ expectedWord t (s .top) (terminals t) → n ≡ ones w
       → numbers (NoAction (s .position) w n c) ≡ numbersOf (wrongAt t (machineOf st li s))
@@ -86,9 +87,8 @@ module _ {t cs st li : List ℕ} {z : Shape} {s : State} (h : Held t cs st li z 
       unfolding actionOf
       action-is = rw (← h .top-is) cell-is
 
-      -- a limit of w bits that is not reached leaves a step to count in w bits
-      pub steppable : {w a : ℕ} → x < 2 ^ 16 → (x ≡ 0 → ⊥) → s .steps ≤ a → (s .steps ≡ a → ⊥) → a < 2 ^ w → Steppable w t cs st li z s x
-      steppable b nz most more f = record {
+      pub steppable : x < 2 ^ 16 → (x ≡ 0 → ⊥) → (s .left ≡ 0 → ⊥) → Steppable t cs st li z s x
+      steppable b nz more = record {
         held = h;
         fits = b;
         shift-in = λ k.

@@ -1,5 +1,5 @@
 -- What the parts of a reading hand on to each other. Only private functions cite this.
-use Prim.Native.Nat.{ℕ}
+use Prim.Native.Nat.{ℕ, _-_}
 use mathlib.Core.Path.{_≡_}
 use mathlib.Core.List.{List, [], _∷_}
 use Rattle.machine.specs.Report.{numbersOf}
@@ -10,7 +10,7 @@ use Rattle.parser.specs.Answer.{numbers}
 
 -- what an end at a state carries
 abbrev pub reached : State → List ℕ
-reached s = s .steps ∷ s .depth ∷ s .listed ∷ []
+reached s = (s .limit - s .left) ∷ s .depth ∷ s .listed ∷ []
 
 -- the answer and both areas at exit are those of an outcome of the machine
 pub record Ends (t : List ℕ) (o : Outcome) (r : Answer) (st li : List ℕ) : Type 0 where

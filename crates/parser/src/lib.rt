@@ -43,17 +43,18 @@ pub enum Answer {
 }
 
 fn count(s: State) -> Counts
+    requires { ⌜ s .left ≤ s .limit ⌝ }
     ensures { λ r. ⌜ countsOf r ≡ reached s ⌝ }
 {
     Counts {
-        steps: s.steps,
+        steps: s.limit - s.left,
         depth: s.depth,
         listed: s.listed,
     }
 }
 
 fn no_action(cells: &[u16], z: Shape, s: State) -> Answer
-    requires { ⌜ (z .terminals ≤ 64) × (s .top * z .width + z .terminals ≤ length (now cells)) ⌝ }
+    requires { ⌜ (z .terminals ≤ 64) × (s .top * z .width + z .terminals ≤ length (now cells)) × (s .left ≤ s .limit) ⌝ }
     ensures { λ r. ⌜ ((t st li : List ℕ) → Held t (now (cells .entry)) st li z s → numbers r ≡ numbersOf (wrongAt t (machineOf st li s))) ⌝ }
 {
     let word = steps::expected(cells, z, s.top);
@@ -68,6 +69,7 @@ fn no_action(cells: &[u16], z: Shape, s: State) -> Answer
 }
 
 fn stopped(e: Stop, s: State) -> Answer
+    requires { ⌜ s .left ≤ s .limit ⌝ }
     ensures { λ r. ⌜ numbers r ≡ stopNumber e ∷ reached s ⌝ }
 {
     let c = count(s);
@@ -90,7 +92,8 @@ fn run(table: &[u16], input: &[u8], stack: &mut [u16], list: &mut [u16], step_li
         depth: 1,
         listed: 0,
         position: 0,
-        steps: 0,
+        left: step_limit,
+        limit: step_limit,
         top: 0,
     };
     loop {
@@ -98,7 +101,7 @@ fn run(table: &[u16], input: &[u8], stack: &mut [u16], list: &mut [u16], step_li
         if a == 0 {
             return no_action(cells, z, s);
         }
-        if s.steps == step_limit {
+        if s.left == 0 {
             return Answer::StepLimit(count(s));
         }
         let n = steps::step(table, cells, stack, list, z, s, a);

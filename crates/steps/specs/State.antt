@@ -14,12 +14,9 @@ use Rattle.steps.specs.declared.Stop.the-variants.{StackFull, ListFull, 
 use Rattle.steps.specs.declared.Next.{Next}
 use Rattle.steps.specs.declared.Next.the-variants.{Ended, Moved, Accepted}
 
--- how wide the code's count of steps is; no law knows it, and beside the types of the code nothing else does
-abbrev pub countBits : ℕ
-countBits = 64
-
+-- the steps made are those of the limit that are not left
 abbrev pub machineOf : List ℕ → List ℕ → State → machine.Machine
-machineOf st li s = record { stack = st; list = li; depth = s .depth; listed = s .listed; position = s .position; steps = s .steps }
+machineOf st li s = record { stack = st; list = li; depth = s .depth; listed = s .listed; position = s .position; steps = s .limit - s .left }
 
 abbrev pub stopNumber : Stop → ℕ
 stopNumber StackFull = 33
@@ -41,33 +38,34 @@ pub record Held (t cs st li : List ℕ) (z : Shape) (s : State) : Type 0 where
   pub within : s .depth ≤ length st
   pub room : s .listed ≤ length li
   pub passed : s .position ≤ 65535
+  pub most : s .left ≤ s .limit
   pub states-in : (i : ℕ) → i < s .depth → getD st i 0 < z .states
   pub top-is : s .top ≡ machine.topOf st (s .depth)
 
--- the same after a step from s, where the machine goes on, with one step more
+-- the same after a step from s, where the machine goes on, with one step less left; after acceptance steps are counted
 abbrev pub HeldNext : List ℕ → List ℕ → List ℕ → List ℕ → Shape → State → Next → Type 0
 HeldNext t cs st li z s (Ended e) = Unit {0}
-HeldNext t cs st li z s (Moved n) = Held t cs st li z n × (n .steps ≡ s .steps + 1)
-HeldNext t cs st li z s (Accepted n) = Unit {0}
+HeldNext t cs st li z s (Moved n) = Held t cs st li z n × (n .left + 1 ≡ s .left)
+HeldNext t cs st li z s (Accepted n) = n .left ≤ n .limit
 
 -- the step from s that answers x, with the areas at its exit, is the machine's m
 pub record Stepped (t cs : List ℕ) (z : Shape) (s : State) (st li : List ℕ) (x : Next) (m : machine.Next) : Type 0 where
   pub next : nextOf st li s x ≡ m
   pub held : HeldNext t cs st li z s x
 
--- production r can be listed, its n symbols popped, which leaves the state under on top, and the step counted in w bits
-pub record Reducible (w : ℕ) (t cs st li : List ℕ) (z : Shape) (s : State) (r n under : ℕ) : Type 0 where
+-- a step is left, production r can be listed, and its n symbols popped, which leaves the state under on top
+pub record Reducible (t cs st li : List ℕ) (z : Shape) (s : State) (r n under : ℕ) : Type 0 where
   pub held : Held t cs st li z s
   pub production : r < productions t
   pub less : n < s .depth
   pub under-is : under ≡ machine.topOf st (s .depth - n)
   pub free : s .listed < length li
-  pub more : s .steps + 1 < 2 ^ w
+  pub more : 0 < s .left
 
--- the cell a asks for a step, a shift only before the end of an input, and the step can be made and counted in w bits
-pub record Steppable (w : ℕ) (t cs st li : List ℕ) (z : Shape) (s : State) (a : ℕ) : Type 0 where
+-- the cell a asks for a step, a shift only before the end of an input, and a step is left
+pub record Steppable (t cs st li : List ℕ) (z : Shape) (s : State) (a : ℕ) : Type 0 where
   pub held : Held t cs st li z s
   pub fits : a < 2 ^ 16
   pub shift-in : a < 1024 → (a < z .states) × (s .position < 65535)
   pub reduction-in : 1024 ≤ a → (a ≡ 4096 → ⊥) → a - 1024 < productions t
-  pub more : s .steps + 1 < 2 ^ w
+  pub more : 0 < s .left

@@ -8,14 +8,16 @@ ghost use Rattle.tables.specs.Layout.{terminals, productions, leftOf, lengthOf,
 ghost use Rattle.tables.specs.Shape.{Shaped};
 ghost use Rattle.machine.specs.ComputedRun.{popped, shifted, reducedTo, reduced, movedBy, expectedWord, bitIf};
 ghost use Rattle.tables.specs.declared.Shape.{Shape};
-ghost use Rattle.steps.specs.State.{countBits, machineOf, Held, Stepped, Reducible, Steppable};
+ghost use Rattle.steps.specs.State.{machineOf, Held, Stepped, Reducible, Steppable};
 
-// The stack places in use, the productions listed, the terminals passed, the steps made and the state on top.
+// The stack places in use, the productions listed, the terminals passed, the steps left of the limit, the limit and
+// the state on top. Steps are counted down, so that nothing overflows at any width.
 pub struct State {
     pub depth: usize,
     pub listed: usize,
     pub position: usize,
-    pub steps: u64,
+    pub left: u64,
+    pub limit: u64,
     pub top: usize,
 }
 
@@ -56,7 +58,7 @@ pub fn action(cells: &[u16], input: &[u8], z: Shape, s: State) -> usize
 }
 
 fn shift(stack: &mut [u16], s: State, a: usize) -> Next
-    requires { ⌜ (a < 2 ^ 16) × (s .position < 65535) × (s .steps + 1 < 2 ^ countBits) ⌝ }
+    requires { ⌜ (a < 2 ^ 16) × (s .position < 65535) × (0 < s .left) ⌝ }
     ensures { λ x. ⌜ ((t cs li : List ℕ) (z : Shape) → Held t cs (now (stack .entry)) li z s → a < z .states → Stepped t cs z s (now (stack .exit)) li x (shifted a (machineOf (now (stack .entry)) li s))) ⌝ }
 {
     let at = s.depth;
@@ -66,7 +68,8 @@ fn shift(stack: &mut [u16], s: State, a: usize) -> Next
             depth: at + 1,
             listed: s.listed,
             position: s.position + 1,
-            steps: s.steps + 1,
+            left: s.left - 1,
+            limit: s.limit,
             top: a,
         })
     } else {
@@ -86,7 +89,7 @@ fn reduce_from(
     n: usize,
     under: usize,
 ) -> Next
-    requires { ⌜ Reducible countBits (now table) (now cells) (now stack) (now list) z s r n under ⌝ }
+    requires { ⌜ Reducible (now table) (now cells) (now stack) (now list) z s r n under ⌝ }
     ensures { λ x. ⌜ Stepped (now (table .entry)) (now (cells .entry)) z s (now (stack .exit)) (now (list .exit)) x (reducedTo r n (s .depth - n) (cellOf (now (table .entry)) under (leftOf (now (table .entry)) r)) (machineOf (now (stack .entry)) (now (list .entry)) s)) ⌝ }
 {
     let d = s.depth - n;
@@ -104,7 +107,8 @@ fn reduce_from(
             depth: d + 1,
             listed: k + 1,
             position: s.position,
-            steps: s.steps + 1,
+            left: s.left - 1,
+            limit: s.limit,
             top: q as usize,
         })
     } else {
@@ -122,7 +126,7 @@ fn reduce_empty(
     s: State,
     r: usize,
 ) -> Next
-    requires { ⌜ (Held (now table) (now cells) (now stack) (now list) z s) × (r < productions (now table)) × (lengthOf (now table) r ≡ 0) × (s .steps + 1 < 2 ^ countBits) ⌝ }
+    requires { ⌜ (Held (now table) (now cells) (now stack) (now list) z s) × (r < productions (now table)) × (lengthOf (now table) r ≡ 0) × (0 < s .left) ⌝ }
     ensures { λ x. ⌜ Stepped (now (table .entry)) (now (cells .entry)) z s (now (stack .exit)) (now (list .exit)) x (reduced (now (table .entry)) r (machineOf (now (stack .entry)) (now (list .entry)) s)) ⌝ }
 {
     let k = s.listed;
@@ -143,7 +147,7 @@ fn reduce(
     r: usize,
     n: usize,
 ) -> Next
-    requires { ⌜ (Held (now table) (now cells) (now stack) (now list) z s) × (r < productions (now table)) × (lengthOf (now table) r ≡ n) × (s .steps + 1 < 2 ^ countBits) ⌝ }
+    requires { ⌜ (Held (now table) (now cells) (now stack) (now list) z s) × (r < productions (now table)) × (lengthOf (now table) r ≡ n) × (0 < s .left) ⌝ }
     ensures { λ x. ⌜ Stepped (now (table .entry)) (now (cells .entry)) z s (now (stack .exit)) (now (list .exit)) x (reduced (now (table .entry)) r (machineOf (now (stack .entry)) (now (list .entry)) s)) ⌝ }
 {
     if s.listed < list.len() {
@@ -169,7 +173,7 @@ fn reduce_by(
     s: State,
     r: usize,
 ) -> Next
-    requires { ⌜ (Held (now table) (now cells) (now stack) (now list) z s) × (r < productions (now table)) × (s .steps + 1 < 2 ^ countBits) ⌝ }
+    requires { ⌜ (Held (now table) (now cells) (now stack) (now list) z s) × (r < productions (now table)) × (0 < s .left) ⌝ }
     ensures { λ x. ⌜ Stepped (now (table .entry)) (now (cells .entry)) z s (now (stack .exit)) (now (list .exit)) x (reduced (now (table .entry)) r (machineOf (now (stack .entry)) (now (list .entry)) s)) ⌝ }
 {
     let n = tables::length_of(table, z, r) as usize;
@@ -200,18 +204,19 @@ pub fn step(
     s: State,
     a: usize,
 ) -> Next
-    requires { ⌜ Steppable countBits (now table) (now cells) (now stack) (now list) z s a ⌝ }
+    requires { ⌜ Steppable (now table) (now cells) (now stack) (now list) z s a ⌝ }
     ensures { λ x. ⌜ Stepped (now (table .entry)) (now (cells .entry)) z s (now (stack .exit)) (now (list .exit)) x (movedBy (now (table .entry)) a (machineOf (now (stack .entry)) (now (list .entry)) s)) ⌝ }
 {
     if a < 1024 {
         shift(stack, s, a)
     } else if a == 4096 {
-        let counted = s.steps + 1;
+        let left = s.left - 1;
         Next::Accepted(State {
             depth: s.depth,
             listed: s.listed,
             position: s.position,
-            steps: counted,
+            left,
+            limit: s.limit,
             top: s.top,
         })
     } else {

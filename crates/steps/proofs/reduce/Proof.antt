@@ -4,7 +4,6 @@ use Prim.Native.Nat.{_-_}
 use Rattle.machine.specs.ComputedRun.{topOf}
 use Rattle.machine.proofs.RunLaws.{reduced-broken, reduced-full}
 use Rattle.steps.proofs.Kept.{reduce-as}
-use Rattle.steps.specs.State.{countBits}
 use borrow.Author.Needs.{needs}
 use Rattle.steps.proofs.reduce.Statement.{statement}
 use Rattle.steps.proofs.reduce.Tie as tie
@@ -36,7 +35,7 @@ same-length-2 c = search needs
 
 returns : tie.Need-returns
 unfolding topOf
-returns c = reduce-as {w = countBits} (record { held = c .before .before .before .before .before .before .before .before .before .before .before .before .before .before .before .before .before .pre .0; production = c .before .before .before .before .before .before .before .before .before .before .before .before .before .before .before .before .before .pre .1; less = c .before .before .before .before .before .before .before .before .before .if2 .taken; under-is = refl; free = c .before .before .before .before .before .before .before .before .before .before .before .if1 .taken; more = c .before .before .before .before .before .before .before .before .before .before .before .before .before .before .before .before .before .pre .3 }) (c .before .before .before .before .before .before .before .before .before .before .before .before .before .before .before .before .before .pre .2) (c .before .before .before .before .reduce-from .ensures)
+returns c = reduce-as (record { held = c .before .before .before .before .before .before .before .before .before .before .before .before .before .before .before .before .before .pre .0; production = c .before .before .before .before .before .before .before .before .before .before .before .before .before .before .before .before .before .pre .1; less = c .before .before .before .before .before .before .before .before .before .if2 .taken; under-is = refl; free = c .before .before .before .before .before .before .before .before .before .before .before .if1 .taken; more = c .before .before .before .before .before .before .before .before .before .before .before .before .before .before .before .before .before .pre .3 }) (c .before .before .before .before .before .before .before .before .before .before .before .before .before .before .before .before .before .pre .2) (c .before .before .before .before .reduce-from .ensures)
 
 returns-2 : tie.Need-returns-2
 returns-2 c = record { next = sym (reduced-broken _ _ _ (c .before .before .if1 .taken) (rw (c .before .before .before .before .before .before .before .before .pre .2) (c .if2 .left))); held = tt }
