@@ -67,12 +67,13 @@ enum {
  * list, list_len     the list area. After an end the first `listed` places hold the productions
  *                    in the order of the reductions (backwards they are a rightmost derivation);
  *                    the others are unchanged.
- * step_limit         how many steps may be made.
+ * step_limit         how many steps may be made, 0 to 2^64 - 1.
  * out                the answer, seven numbers; all are written.
  *
  * What to lend: there is at most a shift for each terminal, a place of the list for each reduction, and one acceptance.
  * - So input_len + list_len + 1 steps are always enough: with that step limit 32 never comes, and the list's length
- *   bounds the steps and the time of a call, whatever the table is.
+ *   bounds the steps and the time of a call, whatever the table is. The sum always fits the step limit: lengths of
+ *   areas in memory are below 2^63 on x86-64. UINT64_MAX, which is above it, is no limit.
  * - A stack of input_len + list_len + 1 places is always enough, and one of input_len + 1 where no production is empty
  *   (only a shift and an empty production's reduction push more than they pop).
  * - How many reductions an input takes is the grammar's: 34 tells that the list is too short. By JSON's table (examples/)
@@ -83,6 +84,16 @@ enum {
  * (bench/reader/checks.sh and calls.c on an AMD EPYC). For an input of 9 terminals and 20 steps by JSON's table the check
  * is six sevenths of the time.
  *
+ * To callers of the call whose step_limit was a uint32_t:
+ * - Compile again, with this header, every file that calls it, and link with the archive that belongs to this header.
+ *   The name is the same, so the link does not notice: an object of the old header leaves the upper half of the
+ *   parameter's place open, so that its limit would be any number; the old archive takes the lower half of the limit
+ *   alone. Declarations by hand, such as those of other languages, must be widened, too.
+ * - No source has to be changed where an unsigned number of 32 bits is passed: it means what it meant, with the same
+ *   end and the same counts. UINT32_MAX is still that number, and no longer the largest: UINT64_MAX is. What was
+ *   negative or above UINT32_MAX was taken modulo 2^32, and is now taken modulo 2^64.
+ * - A place that keeps out[SIDUMZA_STEPS] in 32 bits must be widened.
+ *
  * Every content of the table and the input, and every length, is answered: nothing is asked of them.
  * To the caller is left:
  * - each pointer is aligned and valid for its length: table and input for reading, stack and list for
@@ -92,7 +103,7 @@ enum {
  * The function keeps no pointer and has no state of its own: calls from several threads are independent.
  */
 void sidumza_parse(const uint16_t *table, size_t table_len, const uint8_t *input, size_t input_len, uint16_t *stack,
-                   size_t stack_len, uint16_t *list, size_t list_len, uint32_t step_limit, uint64_t out[7]);
+                   size_t stack_len, uint16_t *list, size_t list_len, uint64_t step_limit, uint64_t out[7]);
 
 /* The lowest terminal of an expected set, 64 where the set is empty. */
 uint32_t sidumza_lowest(uint64_t expected);

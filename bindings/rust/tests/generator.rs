@@ -140,7 +140,7 @@ fn stored_cards_give_their_answers_and_tables_are_read_back() {
 #[test]
 fn answers_have_words() {
     let table = table_of(&numbers(CARD_A)).expect("a table");
-    let said = |input: &[u8], stack: usize, list: usize, limit: u32| {
+    let said = |input: &[u8], stack: usize, list: usize, limit: u64| {
         let answer = parse(&table, input, &mut vec![0; stack], &mut vec![0; list], limit);
         let _: &dyn std::error::Error = &answer;
         (answer.number(), answer.to_string())
