@@ -51,15 +51,16 @@ static void *room(void *old, size_t n)
 }
 
 /* Reads a decimal number up to max at *s and steps over it: 1 if there is one. */
-static int number(char **s, unsigned long max, unsigned long *v)
+static int number(char **s, uint64_t max, uint64_t *v)
 {
     char *end;
     if (!isdigit((unsigned char)**s))
         return 0;
     errno = 0;
-    *v = strtoul(*s, &end, 10);
-    if (errno || *v > max || (*end && !blank(*end)))
+    unsigned long long read = strtoull(*s, &end, 10);
+    if (errno || read > max || (*end && !blank(*end)))
         return 0;
+    *v = read;
     *s = end;
     return 1;
 }
@@ -123,13 +124,13 @@ static void show(const uint64_t *out, const uint16_t *table, size_t table_len, c
 
 int main(int argc, char **argv)
 {
-    unsigned long limits[3] = {1000000, 65536, 1000000}, most[3] = {4294967295ul, 1ul << 24, 1ul << 24};
+    uint64_t limits[3] = {1000000, 65536, 1000000}, most[3] = {UINT64_MAX, 1ul << 24, 1ul << 24};
     if (argc < 2 || argc > 5)
         fail("usage: page TABLE [STEP_LIMIT [STACK [LIST]]]");
     for (int i = 2; i < argc; i++) {
         char *s = argv[i];
         if (!number(&s, most[i - 2], &limits[i - 2]) || *s)
-            fail("%s: not a number up to %lu", argv[i], most[i - 2]);
+            fail("%s: not a number up to %llu", argv[i], (unsigned long long)most[i - 2]);
     }
     static uint16_t table[SIDUMZA_TABLE_MOST];
     size_t table_len = load(argv[1], table, SIDUMZA_TABLE_MOST);
@@ -145,7 +146,7 @@ int main(int argc, char **argv)
     ssize_t got;
     for (unsigned long k = 1; (got = getline(&line, &size, stdin)) >= 0; k++) {
         size_t n = 0;
-        unsigned long v;
+        uint64_t v;
         char *s = line;
         input = room(input, got);
         for (blanks(&s); number(&s, 255, &v); blanks(&s))

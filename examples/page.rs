@@ -45,7 +45,7 @@ fn main() {
         fail("usage: page TABLE [STEP_LIMIT [STACK [LIST]]]".to_string());
     }
     let mut limits = [1000000, 65536, 1000000];
-    for ((word, limit), max) in args[2..].iter().zip(&mut limits).zip([u32::MAX as u64, 1 << 24, 1 << 24]) {
+    for ((word, limit), max) in args[2..].iter().zip(&mut limits).zip([u64::MAX, 1 << 24, 1 << 24]) {
         *limit = number(word, max).unwrap_or_else(|| fail(format!("{word}: not a number up to {max}")));
     }
     let path = &args[1];
@@ -66,7 +66,7 @@ fn main() {
             let _ = out.flush();
             fail(format!("line {}: not a line of terminals", k + 1))
         };
-        let answer = parse(&table, &input, &mut stack, &mut list, limits[0] as u32);
+        let answer = parse(&table, &input, &mut stack, &mut list, limits[0]);
         writeln!(out, "{}", show(answer, &table, &stack, &list)).unwrap_or_else(|e| fail(e.to_string()));
     }
     out.flush().unwrap_or_else(|e| fail(e.to_string()));
