@@ -127,8 +127,8 @@ void plain_parse(const uint16_t *t, size_t t_len, const uint8_t *in, size_t in_l
         if (n == 0 && depth == stack_len) \
             STOP(33) \
         stack[depth - n] = q; \
-        for (size_t i = 1; i < n; i++) \
-            stack[depth - n + i] = 0; \
+        for (size_t i = 2; i <= n; i++) \
+            stack[depth - n + i - 1] = 0; \
         depth = depth - n + 1; \
         top = q; \
         list[listed++] = a - 1024; \
