@@ -149,6 +149,8 @@ fn answers_have_words() {
         (said(&[2, 1], 9, 9, 9), 0, "accepted: steps 5, listed 2"),
         (said(&[2, 2], 9, 9, 9), 31, "wrong at 1: steps 1, expected 0 1"),
         (said(&[2, 1], 9, 9, 4), 32, "stopped 32: steps 4, stack 2, listed 2"),
+        (said(&[2, 1], 9, 9, (1 << 32) + 4), 0, "accepted: steps 5, listed 2"),
+        (said(&[2, 1], 9, 9, u64::MAX), 0, "accepted: steps 5, listed 2"),
         (said(&[2, 1], 2, 9, 9), 33, "stopped 33: steps 2, stack 2, listed 1"),
         (said(&[2, 1], 9, 1, 9), 34, "stopped 34: steps 3, stack 3, listed 1"),
         (said(&[9], 9, 9, 9), 26, "refused 26: no such terminal"),
