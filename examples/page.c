@@ -57,10 +57,10 @@ static int number(char **s, uint64_t max, uint64_t *v)
     if (!isdigit((unsigned char)**s))
         return 0;
     errno = 0;
-    unsigned long long read = strtoull(*s, &end, 10);
-    if (errno || read > max || (*end && !blank(*end)))
+    unsigned long long value = strtoull(*s, &end, 10);
+    if (errno || value > max || (*end && !blank(*end)))
         return 0;
-    *v = read;
+    *v = value;
     *s = end;
     return 1;
 }

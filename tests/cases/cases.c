@@ -77,8 +77,8 @@ static uint64_t number(const char **from) {
     if (**from < '0' || **from > '9')
         malformed();
     errno = 0;
-    unsigned long long value = strtoull(*from, &end, 10);
-    if (errno || value > UINT64_MAX)
+    uint64_t value = strtoull(*from, &end, 10);
+    if (errno)
         malformed();
     *from = end;
     return value;
