@@ -8,6 +8,8 @@ rt staticlib generator_c
 rt check maketable
 command -v bison >/dev/null || { apt-get install -y bison || { apt-get update && apt-get install -y bison; }; } >/dev/null 2>&1 ||
     echo "Bison cannot be installed here"
+# the reader's proofs serve 32 bits, too
+sh tests/width/run.sh
 sh tests/reader/run.sh
 MAKETABLE=target/bin/maketable sh tests/generator/run.sh
 # the scripts and the tool beside the proofs; the first call builds it
