@@ -2,7 +2,7 @@
 use mathlib.Core.Path.{_≡_, refl, sym, ap, subst, _∙_}
 use mathlib.Core.Bool.{false}
 use mathlib.Core.List.{List, _∷_}
-use Prim.Native.Nat.{ℕ, _+_, _-_, _*_, _<_, _≤_}
+use Prim.Native.Nat.{ℕ, _+_, _-_, _*_, _^_, _<_}
 use native.Mathlib.Omega.{arith}
 use lib.ListN.{length, getD, set, drop}
 use lib.Dec.{eqb}
@@ -18,9 +18,9 @@ use Rattle.steps.specs.declared.Stop.the-variants.{StackFull, ListFull, Broken}
 use Rattle.steps.specs.declared.Next.the-variants.{Ended, Moved, Accepted}
 use Rattle.steps.specs.declared.State.{State}
 use Rattle.parser.specs.Answer.{numbers}
-use Rattle.parser.specs.Phases.{reached, Ends}
+use Rattle.parser.specs.Phases.{reached, acceptedAt, Countable, Ends}
 use Rattle.parser.specs.declared.Answer.{Answer}
-use Rattle.parser.proofs.Held.{held-start, action-is}
+use Rattle.parser.proofs.Held.{held-start, countable, action-is}
 
 -- the machine with areas of which the loop starts: state 0 is on the stack
 abbrev pub begun : List ℕ → List ℕ → Machine
@@ -34,8 +34,11 @@ pub record Going (t l cs st₀ li₀ : List ℕ) (a : ℕ) (z : Shape) (st li : 
 
 -- before the first step no step is made
 pub going-start : {t l cs li : List ℕ} {z : Shape} (st : List ℕ) (a : ℕ) → Passed t l (length st) → Shaped t z → cs ≡ drop (z .cells) t
-    → Going t l cs (set st 0 0) li a z (set st 0 0) li (record { depth = 1; listed = 0; position = 0; left = a; limit = a; top = 0 })
-going-start st a p s e = let none : a - a ≡ 0 = omega arith in record { same = rw none refl; held = held-start st a p s e; stacks = refl; lists = refl }
+    → Going t l cs (set st 0 0) li a z (set st 0 0) li (record { depth = 1; listed = 0; position = 0; left = a; top = 0 })
+going-start st a p s e = record { same = refl; held = held-start st a p s e; stacks = refl; lists = refl }
+
+pub countable-now : {t l cs st₀ li₀ st li : List ℕ} {a : ℕ} {z : Shape} {s : State} → Going t l cs st₀ li₀ a z st li s → length li₀ < 2 ^ 63 → Countable s
+countable-now g f = countable (g .held) (rw (g .lists) f)
 
 module _ {t : List ℕ} {r : Answer} where
   ends-31 : (m : Machine) (o : Outcome) → record { number = 31; final = m } ≡ o → numbers r ≡ numbersOf (wrongAt t m) → Ends t o r (m .stack) (m .list)
@@ -81,12 +84,14 @@ module _ {t l cs st₀ li₀ : List ℕ} {a : ℕ} {z : Shape} {st li : List ℕ
         unfolding after
         stop-step {e} y h = ends-else (stopNumber e) (machineOf st′ li′ s) _ (stop-number e) (stepped (y .next)) h
 
-        module _ {s′ : State} where
-          pub accept-step : {r : Answer} → Stepped t cs z s st′ li′ (Accepted s′) (movedBy t x (machineOf st li s))
-              → numbers r ≡ 0 ∷ reached s′ → Ends t (run t l a (begun st₀ li₀)) r st′ li′
-          unfolding after
-          accept-step y h = ends-else 0 (machineOf st′ li′ s′) _ refl (stepped (y .next)) h
+        pub accept-step : {r : Answer} → Stepped t cs z s st′ li′ Accepted (movedBy t x (machineOf st li s))
+            → numbers r ≡ 0 ∷ acceptedAt s → Ends t (run t l a (begun st₀ li₀)) r st′ li′
+        unfolding after
+        accept-step y h =
+            ends-else 0 (record { stack = st′; list = li′; depth = s .depth; listed = s .listed; position = s .position; steps = s .position + s .listed + 1 }) _ refl
+            (stepped (y .next)) h
 
+        module _ {s′ : State} where
           module _ (y : Stepped t cs z s st′ li′ (Moved s′) (movedBy t x (machineOf st li s))) where
             pub falls : s′ .left < s .left
             falls = omega (arith, y .held .1)

@@ -16,7 +16,7 @@ use Rattle.machine.proofs.Checked.{Checked, Passed, shift-passed, reduce-passed
 use Rattle.steps.specs.State.{machineOf, Held, Steppable}
 use Rattle.steps.specs.declared.State.{State}
 use Rattle.parser.specs.Answer.{countsOf, numbers}
-use Rattle.parser.specs.Phases.{reached}
+use Rattle.parser.specs.Phases.{reached, Countable}
 use Rattle.parser.specs.declared.Counts.{Counts}
 use Rattle.parser.specs.declared.Answer.the-variants.{NoAction}
 
@@ -28,7 +28,7 @@ before-end (x ∷ l) (suc i) h = let k = before-end l i h in omega arith
 
 -- the stack starts with state 0, and the whole limit is left
 pub held-start : {t l cs li : List ℕ} {z : Shape} (st : List ℕ) (a : ℕ) → Passed t l (length st) → Shaped t z → cs ≡ drop (z .cells) t
-    → Held t cs (set st 0 0) li z (record { depth = 1; listed = 0; position = 0; left = a; limit = a; top = 0 })
+    → Held t cs (set st 0 0) li z (record { depth = 1; listed = 0; position = 0; left = a; top = 0 })
 unfolding topOf
 held-start st a p s e =
     let first : getD (set st 0 0) 0 0 ≡ 0 = getD-set-same st 0 0 0 (p .places) in
@@ -40,7 +40,6 @@ held-start st a p s e =
       within = rw length-set (p .places);
       room = zero-le;
       passed = zero-le;
-      most = omega arith;
       states-in = λ i h.
           let i0 : i ≡ 0 = omega arith in
           rw (i0, first, s .states-are) (p .table .sizes .states-are .0);
@@ -60,12 +59,16 @@ module _ {t cs st li : List ℕ} {z : Shape} {s : State} (h : Held t cs st li z 
   unfolding topOf
   top-in = rw (h .top-is, ← h .shaped .states-are) (h .states-in (s .depth - 1) (let d = h .deep in omega arith))
 
-  -- the expected set is read from the top state's row, and the steps are counted
-  pub row-in : (z .terminals ≤ 64) × (s .top * z .width + z .terminals ≤ length cs) × (s .left ≤ s .limit)
+  -- the steps can be added up: a list area is shorter than that
+  pub countable : length li < 2 ^ 63 → Countable s
+  countable f = omega (arith, h .passed, h .room)
+
+  -- the expected set is read from the top state's row
+  pub row-in : (z .terminals ≤ 64) × (s .top * z .width + z .terminals ≤ length cs)
   row-in =
       let k = h .checked .sizes .terminals-are in
       let w : s .top * z .width + (terminals t - 1) < length cs = rw (h .rows) (cell-within (h .checked) (h .shaped) (s .top) (terminals t - 1) top-in (last-terminal (h .checked))) in
-      (omega (arith, h .shaped .terminals-are), omega (arith, h .shaped .terminals-are), h .most)
+      (omega (arith, h .shaped .terminals-are), omega (arith, h .shaped .terminals-are))
 
   pub wrong-is : {c : Counts} {w n : ℕ} → countsOf c ≡ reached s → w ≡ expectedWord t (s .top) (terminals t) → n ≡ ones w
       → numbers (NoAction (s .position) w n c) ≡ numbersOf (wrongAt t (machineOf st li s))

@@ -1,5 +1,5 @@
 -- What the parts of a reading hand on to each other. Only private functions cite this.
-use Prim.Native.Nat.{ℕ, _-_}
+use Prim.Native.Nat.{ℕ, _+_, _^_, _<_}
 use mathlib.Core.Path.{_≡_}
 use mathlib.Core.List.{List, [], _∷_}
 use Rattle.machine.specs.Report.{numbersOf}
@@ -10,7 +10,15 @@ use Rattle.parser.specs.Answer.{numbers}
 
 -- what an end at a state carries
 abbrev pub reached : State → List ℕ
-reached s = (s .limit - s .left) ∷ s .depth ∷ s .listed ∷ []
+reached s = (s .position + s .listed) ∷ s .depth ∷ s .listed ∷ []
+
+-- what acceptance there carries: it is a step, too
+abbrev pub acceptedAt : State → List ℕ
+acceptedAt s = (s .position + s .listed + 1) ∷ s .depth ∷ s .listed ∷ []
+
+-- the code can add the steps up
+abbrev pub Countable : State → Type 0
+Countable s = s .position + s .listed + 1 < 2 ^ 64
 
 -- the answer and both areas at exit are those of an outcome of the machine
 pub record Ends (t : List ℕ) (o : Outcome) (r : Answer) (st li : List ℕ) : Type 0 where

@@ -14,7 +14,7 @@ ghost use Rattle.machine.specs.Report.{numbersOf};
 ghost use Rattle.machine.specs.ComputedRun.{run as runs, start, wrongAt, reading};
 ghost use Rattle.steps.specs.State.{machineOf, stopNumber, Held};
 ghost use Rattle.parser.specs.Answer.{countsOf, numbers, ReadsAs};
-ghost use Rattle.parser.specs.Phases.{reached, Ends};
+ghost use Rattle.parser.specs.Phases.{reached, acceptedAt, Countable, Ends};
 ghost use Rattle.parser.specs.Terminals.{Lists};
 
 // The steps made, the stack places in use and the productions listed.
@@ -43,18 +43,18 @@ pub enum Answer {
 }
 
 fn count(s: State) -> Counts
-    requires { ⌜ s .left ≤ s .limit ⌝ }
+    requires { ⌜ Countable s ⌝ }
     ensures { λ r. ⌜ countsOf r ≡ reached s ⌝ }
 {
     Counts {
-        steps: s.limit - s.left,
+        steps: (s.position + s.listed) as u64,
         depth: s.depth,
         listed: s.listed,
     }
 }
 
 fn no_action(cells: &[u16], z: Shape, s: State) -> Answer
-    requires { ⌜ (z .terminals ≤ 64) × (s .top * z .width + z .terminals ≤ length (now cells)) × (s .left ≤ s .limit) ⌝ }
+    requires { ⌜ (z .terminals ≤ 64) × (s .top * z .width + z .terminals ≤ length (now cells)) × (Countable s) ⌝ }
     ensures { λ r. ⌜ ((t st li : List ℕ) → Held t (now (cells .entry)) st li z s → numbers r ≡ numbersOf (wrongAt t (machineOf st li s))) ⌝ }
 {
     let word = steps::expected(cells, z, s.top);
@@ -69,7 +69,7 @@ fn no_action(cells: &[u16], z: Shape, s: State) -> Answer
 }
 
 fn stopped(e: Stop, s: State) -> Answer
-    requires { ⌜ s .left ≤ s .limit ⌝ }
+    requires { ⌜ Countable s ⌝ }
     ensures { λ r. ⌜ numbers r ≡ stopNumber e ∷ reached s ⌝ }
 {
     let c = count(s);
@@ -78,6 +78,18 @@ fn stopped(e: Stop, s: State) -> Answer
         Stop::ListFull => Answer::ListFull(c),
         Stop::Broken => Answer::Broken(c),
     }
+}
+
+// Acceptance is a step of its own.
+fn accepted(s: State) -> Answer
+    requires { ⌜ Countable s ⌝ }
+    ensures { λ r. ⌜ numbers r ≡ 0 ∷ acceptedAt s ⌝ }
+{
+    Answer::Accepted(Counts {
+        steps: (s.position + s.listed + 1) as u64,
+        depth: s.depth,
+        listed: s.listed,
+    })
 }
 
 // The reading of an input by a table, both checked.
@@ -93,7 +105,6 @@ fn run(table: &[u16], input: &[u8], stack: &mut [u16], list: &mut [u16], step_li
         listed: 0,
         position: 0,
         left: step_limit,
-        limit: step_limit,
         top: 0,
     };
     loop {
@@ -112,8 +123,8 @@ fn run(table: &[u16], input: &[u8], stack: &mut [u16], list: &mut [u16], step_li
             Next::Moved(t) => {
                 s = t;
             }
-            Next::Accepted(t) => {
-                return Answer::Accepted(count(t));
+            Next::Accepted => {
+                return accepted(s);
             }
         }
     }

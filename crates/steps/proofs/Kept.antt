@@ -8,16 +8,16 @@ use lib.ListN.{length, getD, set, length-set}
 use lib.Seq.{getD-set-same, getD-set-other}
 use Rattle.sets.proofs.HasLaws.{lt-or-ge}
 use Rattle.tables.specs.Layout.{states, width, leftOf, lengthOf, cellOf}
-use Rattle.machine.specs.ComputedRun.{popped, topOf, shifted, reducedTo, reduced, movedBy}
+use Rattle.machine.specs.ComputedRun.{popped, topOf, shifted, reducedTo, reduced}
 use Rattle.machine.specs.ComputedRun as machine
 use Rattle.tables.specs.declared.Shape.{Shape}
 use Rattle.tables.proofs.Places.{cell-in}
 use Rattle.machine.proofs.Checked.{left-passed, goto-passed, cell-within, left-within}
 use Rattle.steps.specs.State.{machineOf, Held, Stepped, Reducible}
 use Rattle.steps.specs.declared.Next.{Next}
-use Rattle.steps.specs.declared.Next.the-variants.{Ended, Moved, Accepted}
+use Rattle.steps.specs.declared.Next.the-variants.{Ended, Moved}
 use Rattle.steps.specs.declared.Stop.the-variants.{StackFull, Broken}
-use Rattle.machine.proofs.RunLaws.{shifted-goes, moved-accept, reducedTo-none, reducedTo-full, reducedTo-goes, reduced-to}
+use Rattle.machine.proofs.RunLaws.{shifted-goes, reducedTo-none, reducedTo-full, reducedTo-goes, reduced-to}
 use Rattle.steps.specs.declared.State.{State}
 
 pub popped-length : (s : List ℕ) (d n : ℕ) → length (popped s d n) ≡ length s
@@ -50,19 +50,9 @@ top-more st d q h = let e : d + 1 - 1 ≡ d = omega arith in rw e (sym (getD-set
 pub restep : {t cs st li : List ℕ} {z : Shape} {s : State} {x : Next} {m m′ : machine.Next} → m ≡ m′ → Stepped t cs z s st li x m → Stepped t cs z s st li x m′
 restep e y = record { next = y .next ∙ e; held = y .held }
 
--- one step less left is one step more made
-one-more : {left limit : ℕ} → 0 < left → left ≤ limit → limit - (left - 1) ≡ limit - left + 1
-one-more h k = omega arith
-
 module _ {t cs st li : List ℕ} {z : Shape} {s : State} where
-  -- so the machine after a step has counted it
-  counted : Held t cs st li z s → 0 < s .left → (st′ li′ : List ℕ) (d k p q : ℕ)
-      → machineOf st′ li′ (record { depth = d; listed = k; position = p; left = s .left - 1; limit = s .limit; top = q })
-      ≡ record { stack = st′; list = li′; depth = d; listed = k; position = p; steps = s .limit - s .left + 1 }
-  counted h more st′ li′ d k p q = rw (one-more more (h .most))
-
   kept-shift : Held t cs st li z s → (a : ℕ) → a < z .states → s .position < 65535 → s .depth < length st
-      → Held t cs (set st (s .depth) a) li z (record { depth = s .depth + 1; listed = s .listed; position = s .position + 1; left = s .left - 1; limit = s .limit; top = a })
+      → Held t cs (set st (s .depth) a) li z (record { depth = s .depth + 1; listed = s .listed; position = s .position + 1; left = s .left - 1; top = a })
   kept-shift h a b p k = record {
     checked = h .checked;
     shaped = h .shaped;
@@ -71,25 +61,16 @@ module _ {t cs st li : List ℕ} {z : Shape} {s : State} where
     within = rw length-set (omega arith);
     room = h .room;
     passed = omega (arith, p);
-    most = omega (arith, h .most);
     states-in = states-more st (s .depth) a (z .states) k b (h .states-in);
     top-is = top-more st (s .depth) a k;
   }
 
   pub shift-goes : Held t cs st li z s → 0 < s .left → (a : ℕ) → a < z .states → s .position < 65535 → s .depth < length st
-      → Stepped t cs z s (set st (s .depth) a) li (Moved (record { depth = s .depth + 1; listed = s .listed; position = s .position + 1; left = s .left - 1; limit = s .limit; top = a }))
+      → Stepped t cs z s (set st (s .depth) a) li (Moved (record { depth = s .depth + 1; listed = s .listed; position = s .position + 1; left = s .left - 1; top = a }))
       (shifted a (machineOf st li s))
   shift-goes h more a b p k = record {
-    next = ap machine.moved (counted h more (set st (s .depth) a) li (s .depth + 1) (s .listed) (s .position + 1) a) ∙ sym (shifted-goes a (machineOf st li s) k);
+    next = let e : s .position + 1 + s .listed ≡ s .position + s .listed + 1 = omega arith in rw e (sym (shifted-goes a (machineOf st li s) k));
     held = (kept-shift h a b p k, omega arith);
-  }
-
-  pub accept-goes : Held t cs st li z s → 0 < s .left → (a : ℕ) → 1024 ≤ a → a ≡ 4096
-      → Stepped t cs z s st li (Accepted (record { depth = s .depth; listed = s .listed; position = s .position; left = s .left - 1; limit = s .limit; top = s .top }))
-      (movedBy t a (machineOf st li s))
-  accept-goes h more a b e = record {
-    next = ap machine.accepted (counted h more st li (s .depth) (s .listed) (s .position) (s .top)) ∙ sym (moved-accept t a (machineOf st li s) b e);
-    held = omega (arith, h .most);
   }
 
   module _ {r n under : ℕ} (g : Reducible t cs st li z s r n under) where
@@ -113,7 +94,7 @@ module _ {t cs st li : List ℕ} {z : Shape} {s : State} where
         goto-is = eq ∙ rw (h .rows, el) (cell-in (h .shaped) under (leftOf t r))
 
         pub kept-reduce : {p : List ℕ} → p ≡ popped st (s .depth) n → s .depth - n < length st
-            → Held t cs (set p (s .depth - n) q) (set li (s .listed) r) z (record { depth = s .depth - n + 1; listed = s .listed + 1; position = s .position; left = s .left - 1; limit = s .limit; top = q })
+            → Held t cs (set p (s .depth - n) q) (set li (s .listed) r) z (record { depth = s .depth - n + 1; listed = s .listed + 1; position = s .position; left = s .left - 1; top = q })
         kept-reduce {p} ep k =
             let lp = left-passed (h .checked) r (g .production) in
             let qb : q < z .states = rw (goto-is, h .shaped .states-are) (goto-passed (h .checked) under (leftOf t r) under-in (lp .0) (lp .1)) in
@@ -129,7 +110,6 @@ module _ {t cs st li : List ℕ} {z : Shape} {s : State} where
               within = rw length-set (omega arith);
               room = rw length-set (omega arith);
               passed = h .passed;
-              most = omega (arith, h .most);
               states-in = states-more p (s .depth - n) q (z .states) low qb
                   (λ i b. rw (ep, popped-at st (s .depth) n i (omega arith) b) (h .states-in i (omega arith)));
               top-is = top-more p (s .depth - n) q low;
@@ -145,12 +125,14 @@ module _ {t cs st li : List ℕ} {z : Shape} {s : State} where
 
         pub reduce-goes : {p : List ℕ} → p ≡ popped st (s .depth) n → (q ≡ 0 → ⊥) → s .depth - n < length st
             → Stepped t cs z s (set p (s .depth - n) q) (set li (s .listed) r)
-            (Moved (record { depth = s .depth - n + 1; listed = s .listed + 1; position = s .position; left = s .left - 1; limit = s .limit; top = q }))
+            (Moved (record { depth = s .depth - n + 1; listed = s .listed + 1; position = s .position; left = s .left - 1; top = q }))
             (reducedTo r n (s .depth - n) (cellOf t under (leftOf t r)) (machineOf st li s))
-        reduce-goes {p} ep e k = record {
-          next = ap machine.moved (counted h (g .more) (set p (s .depth - n) q) (set li (s .listed) r) (s .depth - n + 1) (s .listed + 1) (s .position) q)
-              ∙ reducedTo-goes r n (s .depth - n) q (machineOf st li s) p ep e k
-              ∙ ap (λ (v : ℕ). reducedTo r n (s .depth - n) v (machineOf st li s)) goto-is;
+        reduce-goes {p} ep e₀ k = record {
+          next =
+              let e : s .position + (s .listed + 1) ≡ s .position + s .listed + 1 = omega arith in
+              rw e
+              (reducedTo-goes r n (s .depth - n) q (machineOf st li s) p ep e₀ k
+              ∙ ap (λ (v : ℕ). reducedTo r n (s .depth - n) v (machineOf st li s)) goto-is);
           held = (kept-reduce ep k, let b = g .more in omega arith);
         }
 

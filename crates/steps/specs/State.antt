@@ -14,9 +14,9 @@ use Rattle.steps.specs.declared.Stop.the-variants.{StackFull, ListFull, 
 use Rattle.steps.specs.declared.Next.{Next}
 use Rattle.steps.specs.declared.Next.the-variants.{Ended, Moved, Accepted}
 
--- the steps made are those of the limit that are not left
+-- each step made has passed a terminal or listed a production
 abbrev pub machineOf : List ℕ → List ℕ → State → machine.Machine
-machineOf st li s = record { stack = st; list = li; depth = s .depth; listed = s .listed; position = s .position; steps = s .limit - s .left }
+machineOf st li s = record { stack = st; list = li; depth = s .depth; listed = s .listed; position = s .position; steps = s .position + s .listed }
 
 abbrev pub stopNumber : Stop → ℕ
 stopNumber StackFull = 33
@@ -27,7 +27,7 @@ stopNumber Broken = 35
 abbrev pub nextOf : List ℕ → List ℕ → State → Next → machine.Next
 nextOf st li s (Ended e) = machine.ended (stopNumber e) (machineOf st li s)
 nextOf st li s (Moved n) = machine.moved (machineOf st li n)
-nextOf st li s (Accepted n) = machine.accepted (machineOf st li n)
+nextOf st li s Accepted = machine.accepted (record { stack = st; list = li; depth = s .depth; listed = s .listed; position = s .position; steps = s .position + s .listed + 1 })
 
 -- what holds between steps: t is a checked table of the sizes z and the rows cs, st and li are the areas
 pub record Held (t cs st li : List ℕ) (z : Shape) (s : State) : Type 0 where
@@ -38,15 +38,14 @@ pub record Held (t cs st li : List ℕ) (z : Shape) (s : State) : Type 0 where
   pub within : s .depth ≤ length st
   pub room : s .listed ≤ length li
   pub passed : s .position ≤ 65535
-  pub most : s .left ≤ s .limit
   pub states-in : (i : ℕ) → i < s .depth → getD st i 0 < z .states
   pub top-is : s .top ≡ machine.topOf st (s .depth)
 
--- the same after a step from s, where the machine goes on, with one step less left; after acceptance steps are counted
+-- the same after a step from s, where the machine goes on, with one step less left
 abbrev pub HeldNext : List ℕ → List ℕ → List ℕ → List ℕ → Shape → State → Next → Type 0
 HeldNext t cs st li z s (Ended e) = Unit {0}
 HeldNext t cs st li z s (Moved n) = Held t cs st li z n × (n .left + 1 ≡ s .left)
-HeldNext t cs st li z s (Accepted n) = n .left ≤ n .limit
+HeldNext t cs st li z s Accepted = Unit {0}
 
 -- the step from s that answers x, with the areas at its exit, is the machine's m
 pub record Stepped (t cs : List ℕ) (z : Shape) (s : State) (st li : List ℕ) (x : Next) (m : machine.Next) : Type 0 where

@@ -10,14 +10,13 @@ ghost use Rattle.machine.specs.ComputedRun.{popped, shifted, reducedTo, reduced
 ghost use Rattle.tables.specs.declared.Shape.{Shape};
 ghost use Rattle.steps.specs.State.{machineOf, Held, Stepped, Reducible, Steppable};
 
-// The stack places in use, the productions listed, the terminals passed, the steps left of the limit, the limit and
-// the state on top. Steps are counted down, so that nothing overflows at any width.
+// The stack places in use, the productions listed, the terminals passed, how many steps may still be made, and the
+// state on top. The steps made need no counter: each has passed a terminal or listed a production.
 pub struct State {
     pub depth: usize,
     pub listed: usize,
     pub position: usize,
     pub left: u64,
-    pub limit: u64,
     pub top: usize,
 }
 
@@ -31,7 +30,7 @@ pub enum Stop {
 pub enum Next {
     Ended(Stop),
     Moved(State),
-    Accepted(State),
+    Accepted,
 }
 
 // Pops n states: their places become 0.
@@ -69,7 +68,6 @@ fn shift(stack: &mut [u16], s: State, a: usize) -> Next
             listed: s.listed,
             position: s.position + 1,
             left: s.left - 1,
-            limit: s.limit,
             top: a,
         })
     } else {
@@ -108,7 +106,6 @@ fn reduce_from(
             listed: k + 1,
             position: s.position,
             left: s.left - 1,
-            limit: s.limit,
             top: q as usize,
         })
     } else {
@@ -210,15 +207,7 @@ pub fn step(
     if a < 1024 {
         shift(stack, s, a)
     } else if a == 4096 {
-        let left = s.left - 1;
-        Next::Accepted(State {
-            depth: s.depth,
-            listed: s.listed,
-            position: s.position,
-            left,
-            limit: s.limit,
-            top: s.top,
-        })
+        Next::Accepted
     } else {
         reduce_by(table, cells, stack, list, z, s, a - 1024)
     }

@@ -4,10 +4,11 @@ use mathlib.Core.Path.{ap, _∙_}
 use mathlib.Core.List.{List, _∷_}
 use Prim.Native.Nat.{ℕ}
 use lib.ListN.{length-set}
+use native.Mathlib.Omega.{arith}
 use Rattle.machine.specs.ComputedRun.{start}
 use Rattle.machine.proofs.Checked.{passed, cells-within}
 use Rattle.parser.proofs.Held.{action-within, row-in, steppable}
-use Rattle.parser.proofs.Going.{Going, going-start, stop-31, stop-32, stop-step, accept-step, falls, goes-on}
+use Rattle.parser.proofs.Going.{Going, going-start, countable-now, stop-31, stop-32, stop-step, accept-step, falls, goes-on}
 use Rattle.parser.proofs.run.Statement.{statement}
 use Rattle.parser.proofs.run.Tie as tie
 
@@ -33,7 +34,10 @@ action-requires : tie.Need-action-requires Inv-loop μ-loop
 action-requires c κs = action-within (c .loop .inv .held) (passed _ _ _ (c .before .before .before .before .before .before .before .pre))
 
 no-action-requires : tie.Need-no-action-requires Inv-loop μ-loop
-no-action-requires c κs = row-in (c .before .before .loop .inv .held)
+no-action-requires c κs =
+    let b2 = c .before .before in
+    let r = row-in (b2 .loop .inv .held) in
+    (r .0, r .1, countable-now (b2 .loop .inv) (omega (arith, b2 .before .before .before .before .before .before .before .good)))
 
 same-length : tie.Need-same-length Inv-loop μ-loop
 same-length c = c .before .before .before .loop .inv .stacks ∙ simp length-set
@@ -45,7 +49,7 @@ returns c =
     stop-31 (b3 .loop .inv) (passed _ _ _ (b3 .before .before .before .before .before .before .before .pre)) (c .before .before .action .ensures .0) (c .before .if1 .taken) (c .no-action .ensures _ _ _ (b3 .loop .inv .held))
 
 count-requires : tie.Need-count-requires Inv-loop μ-loop
-count-requires c κs = c .before .before .before .before .loop .inv .held .most
+count-requires c κs = let b4 = c .before .before .before .before in countable-now (b4 .loop .inv) (omega (arith, b4 .before .before .before .before .before .before .before .good))
 
 same-length-3 : tie.Need-same-length-3 Inv-loop μ-loop
 same-length-3 c = c .before .before .before .before .before .loop .inv .stacks ∙ simp length-set
@@ -63,7 +67,10 @@ step-requires c κs =
     steppable (b6 .loop .inv .held) (passed _ _ _ (b6 .before .before .before .before .before .before .before .pre)) (a .0) (a .1) (c .before .before .before .before .if1 .left) (c .before .before .if2 .left)
 
 stopped-requires : tie.Need-stopped-requires Inv-loop μ-loop
-stopped-requires c κs = let b7 = c .before .before .before .before .before .before .before in b7 .before .before .before .before .before .before .before .loop .inv .held .most
+stopped-requires c κs =
+    let b7 = c .before .before .before .before .before .before .before in
+    let b14 = b7 .before .before .before .before .before .before .before in
+    countable-now (b14 .loop .inv) (omega (arith, b14 .before .before .before .before .before .before .before .good))
 
 same-length-5 : tie.Need-same-length-5 Inv-loop μ-loop
 same-length-5 c = let b8 = c .before .before .before .before .before .before .before .before in b8 .step .kept .1 .1 .0 ∙ b8 .before .before .before .before .before .before .before .loop .inv .stacks ∙ simp length-set
@@ -90,21 +97,24 @@ loop-again c =
     let b14 = b7 .before .before .before .before .before .before .before in
     goes-on (b14 .loop .inv) (passed _ _ _ (b14 .before .before .before .before .before .before .before .pre)) (b7 .before .before .before .before .before .before .action .ensures .0) (b7 .before .before .before .before .before .if1 .left) (b7 .before .before .before .if2 .left) (rw (c .before .n2 .given .1) at (b7 .step .ensures)) (b7 .step .kept .1 .1 .0) (b7 .step .kept .1 .1 .1 .0)
 
-count-requires-2 : tie.Need-count-requires-2 Inv-loop μ-loop
-count-requires-2 c κs = rw (c .before .n3 .given .1) at (c .before .before .before .before .before .before .before .step .ensures) .held
+accepted-requires : tie.Need-accepted-requires Inv-loop μ-loop
+accepted-requires c κs =
+    let b6 = c .before .before .before .before .before .before in
+    let b13 = b6 .before .before .before .before .before .before .before in
+    countable-now (b13 .loop .inv) (omega (arith, b13 .before .before .before .before .before .before .before .good))
 
 same-length-7 : tie.Need-same-length-7 Inv-loop μ-loop
-same-length-7 c = let b8 = c .before .before .before .before .before .before .before .before in b8 .step .kept .1 .1 .0 ∙ b8 .before .before .before .before .before .before .before .loop .inv .stacks ∙ simp length-set
+same-length-7 c = let b7 = c .before .before .before .before .before .before .before in b7 .step .kept .1 .1 .0 ∙ b7 .before .before .before .before .before .before .before .loop .inv .stacks ∙ simp length-set
 
 same-length-8 : tie.Need-same-length-8 Inv-loop μ-loop
-same-length-8 c = let b8 = c .before .before .before .before .before .before .before .before in b8 .step .kept .1 .1 .1 .0 ∙ b8 .before .before .before .before .before .before .before .loop .inv .lists
+same-length-8 c = let b7 = c .before .before .before .before .before .before .before in b7 .step .kept .1 .1 .1 .0 ∙ b7 .before .before .before .before .before .before .before .loop .inv .lists
 
 returns-4 : tie.Need-returns-4 Inv-loop μ-loop
 unfolding start
 returns-4 c =
-    let b8 = c .before .before .before .before .before .before .before .before in
-    let b15 = b8 .before .before .before .before .before .before .before in
-    accept-step (b15 .loop .inv) (passed _ _ _ (b15 .before .before .before .before .before .before .before .pre)) (b8 .before .before .before .before .before .before .action .ensures .0) (b8 .before .before .before .before .before .if1 .left) (b8 .before .before .before .if2 .left) (rw (c .before .before .n3 .given .1) at (b8 .step .ensures)) (ap (λ (x : List ℕ). 0 ∷ x) (c .count2 .ensures))
+    let b7 = c .before .before .before .before .before .before .before in
+    let b14 = b7 .before .before .before .before .before .before .before in
+    accept-step (b14 .loop .inv) (passed _ _ _ (b14 .before .before .before .before .before .before .before .pre)) (b7 .before .before .before .before .before .before .action .ensures .0) (b7 .before .before .before .before .before .if1 .left) (b7 .before .before .before .if2 .left) (rw (c .before .enum-told .given .1) at (b7 .step .ensures)) (c .accepted .ensures)
 
 pub run-spec : {M : Type 1} → statement M
 run-spec =
@@ -135,7 +145,7 @@ run-spec =
     loop-less
     loop-again
     (λ c. search needs)
-    count-requires-2
+    accepted-requires
     same-length-7
     same-length-8
     returns-4)

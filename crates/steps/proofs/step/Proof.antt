@@ -1,6 +1,6 @@
 use mathlib.Core.Path.{sym}
-use Rattle.machine.proofs.RunLaws.{moved-shift, moved-reduce}
-use Rattle.steps.proofs.Kept.{restep, accept-goes}
+use Rattle.machine.proofs.RunLaws.{moved-shift, moved-accept, moved-reduce}
+use Rattle.steps.proofs.Kept.{restep}
 use borrow.Author.Needs.{needs}
 use Rattle.steps.proofs.step.Statement.{statement}
 use Rattle.steps.proofs.step.Tie as tie
@@ -21,9 +21,7 @@ returns c =
     restep (sym (moved-shift _ _ _ (b4 .if1 .taken))) (c .before .before .shift .ensures _ _ _ _ (p .held) (p .shift-in (b4 .if1 .taken) .0))
 
 returns-2 : tie.Need-returns-2
-returns-2 c =
-    let p = c .before .before .before .before .before .before .before .pre in
-    accept-goes (p .held) (p .more) _ (c .before .before .if1 .left) (c .before .if2 .taken)
+returns-2 c = record { next = sym (moved-accept _ _ _ (c .before .if1 .left) (c .if2 .taken)); held = tt }
 
 returns-3 : tie.Need-returns-3
 returns-3 c =
@@ -35,7 +33,6 @@ step-spec =
     tie.close
     (tie.spec
     shift-requires
-    (λ c. search needs)
     reduce-by-requires
     (λ c. search needs)
     returns
