@@ -92,7 +92,8 @@ enum {
  * - No source has to be changed where an unsigned number of 32 bits is passed: it means what it meant, with the same
  *   end and the same counts. UINT32_MAX is still that number, and no longer the largest: UINT64_MAX is. What was
  *   negative or above UINT32_MAX was taken modulo 2^32, and is now taken modulo 2^64.
- * - A place that keeps out[SIDUMZA_STEPS] in 32 bits must be widened.
+ * - A place that keeps out[SIDUMZA_STEPS] in 32 bits must be widened, unless the limits stay below 2^32: no count passes
+ *   its limit.
  *
  * Every content of the table and the input, and every length, is answered: nothing is asked of them.
  * To the caller is left:

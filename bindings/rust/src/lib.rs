@@ -98,7 +98,7 @@ mod archive {
 ///
 /// To callers of the function whose `step_limit` was a `u32`: a number of 32 bits is passed as `u64::from(..)` and
 /// means what it meant, with the same answer and counts; `u32::MAX` is no longer the largest limit; [`Counts::steps`]
-/// is a `u64`, and a place that keeps it must be widened. The compiler finds these places, but no declaration of
+/// is a `u64`, and a place that keeps it must be widened, unless the limits stay below 2^32: no count passes its limit. The compiler finds these places, but no declaration of
 /// `sidumza_parse` by hand: that must be widened, too. The archive must be the one that belongs to this crate: an older
 /// one takes the lower half of the limit alone.
 #[cfg(feature = "parser")]
