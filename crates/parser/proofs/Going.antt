@@ -12,7 +12,7 @@ use Rattle.machine.proofs.RunLaws.{run-wrong, run-none, run-more}
 use Rattle.tables.specs.Shape.{Shaped}
 use Rattle.tables.specs.declared.Shape.{Shape}
 use Rattle.machine.proofs.Checked.{Passed}
-use Rattle.steps.specs.State.{machineOf, stopNumber, Held, Stepped}
+use Rattle.steps.specs.State.{machineOf, acceptedOf, stopNumber, Held, Stepped}
 use Rattle.steps.specs.declared.Stop.{Stop}
 use Rattle.steps.specs.declared.Stop.the-variants.{StackFull, ListFull, Broken}
 use Rattle.steps.specs.declared.Next.the-variants.{Ended, Moved, Accepted}
@@ -22,7 +22,7 @@ use Rattle.parser.specs.Phases.{reached, acceptedAt, Countable, Ends}
 use Rattle.parser.specs.declared.Answer.{Answer}
 use Rattle.parser.proofs.Held.{held-start, countable, action-is}
 
--- the machine with areas of which the loop starts: state 0 is on the stack
+-- the machine as the loop starts, with state 0 on the stack
 abbrev pub begun : List ℕ → List ℕ → Machine
 begun st li = record { stack = st; list = li; depth = 1; listed = 0; position = 0; steps = 0 }
 
@@ -87,20 +87,17 @@ module _ {t l cs st₀ li₀ : List ℕ} {a : ℕ} {z : Shape} {st li : List ℕ
         pub accept-step : {r : Answer} → Stepped t cs z s st′ li′ Accepted (movedBy t x (machineOf st li s))
             → numbers r ≡ 0 ∷ acceptedAt s → Ends t (run t l a (begun st₀ li₀)) r st′ li′
         unfolding after
-        accept-step y h =
-            ends-else 0 (record { stack = st′; list = li′; depth = s .depth; listed = s .listed; position = s .position; steps = s .position + s .listed + 1 }) _ refl
-            (stepped (y .next)) h
+        accept-step y h = ends-else 0 (acceptedOf st′ li′ s) _ refl (stepped (y .next)) h
 
-        module _ {s′ : State} where
-          module _ (y : Stepped t cs z s st′ li′ (Moved s′) (movedBy t x (machineOf st li s))) where
-            pub falls : s′ .left < s .left
-            falls = omega (arith, y .held .1)
+        module _ {s′ : State} (y : Stepped t cs z s st′ li′ (Moved s′) (movedBy t x (machineOf st li s))) where
+          pub falls : s′ .left < s .left
+          falls = omega (arith, y .held .1)
 
-            pub goes-on : length st′ ≡ length st → length li′ ≡ length li → Going t l cs st₀ li₀ a z st′ li′ s′
-            unfolding after
-            goes-on es el = record {
-              same = ap (λ (n : ℕ). run t l n (machineOf st′ li′ s′)) (omega (arith, y .held .1)) ∙ stepped (y .next);
-              held = y .held .0;
-              stacks = es ∙ g .stacks;
-              lists = el ∙ g .lists;
-            }
+          pub goes-on : length st′ ≡ length st → length li′ ≡ length li → Going t l cs st₀ li₀ a z st′ li′ s′
+          unfolding after
+          goes-on es el = record {
+            same = ap (λ (n : ℕ). run t l n (machineOf st′ li′ s′)) (omega (arith, y .held .1)) ∙ stepped (y .next);
+            held = y .held .0;
+            stacks = es ∙ g .stacks;
+            lists = el ∙ g .lists;
+          }

@@ -18,6 +18,10 @@ use Rattle.steps.specs.declared.Next.the-variants.{Ended, Moved, Accepte
 abbrev pub machineOf : List ℕ → List ℕ → State → machine.Machine
 machineOf st li s = record { stack = st; list = li; depth = s .depth; listed = s .listed; position = s .position; steps = s .position + s .listed }
 
+-- acceptance is one step more, and changes nothing else
+abbrev pub acceptedOf : List ℕ → List ℕ → State → machine.Machine
+acceptedOf st li s = record { stack = st; list = li; depth = s .depth; listed = s .listed; position = s .position; steps = s .position + s .listed + 1 }
+
 abbrev pub stopNumber : Stop → ℕ
 stopNumber StackFull = 33
 stopNumber ListFull = 34
@@ -27,7 +31,7 @@ stopNumber Broken = 35
 abbrev pub nextOf : List ℕ → List ℕ → State → Next → machine.Next
 nextOf st li s (Ended e) = machine.ended (stopNumber e) (machineOf st li s)
 nextOf st li s (Moved n) = machine.moved (machineOf st li n)
-nextOf st li s Accepted = machine.accepted (record { stack = st; list = li; depth = s .depth; listed = s .listed; position = s .position; steps = s .position + s .listed + 1 })
+nextOf st li s Accepted = machine.accepted (acceptedOf st li s)
 
 -- what holds between steps: t is a checked table of the sizes z and the rows cs, st and li are the areas
 pub record Held (t cs st li : List ℕ) (z : Shape) (s : State) : Type 0 where
