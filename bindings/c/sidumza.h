@@ -80,7 +80,7 @@ enum {
  *   an input of 9 terminals takes 10.
  * What a call costs: it checks the whole table first, each time: 0.34 microseconds for the 530 numbers of JSON's table,
  * 1.4 for 256 rows of few cells, 7 to 26 for the largest table, of 32260 numbers (7 where no cell names a state, 21 where
- * all but those of column 0 do, 26 where half of them do by chance); then some 3 nanoseconds a step
+ * all but those of column 0 do, 26 where half of them do by chance); then 3 to 6 nanoseconds a step
  * (bench/reader/checks.sh and calls.c on an AMD EPYC). For an input of 9 terminals and 20 steps by JSON's table the check
  * is six sevenths of the time.
  *
