@@ -5,6 +5,10 @@
  * TABLE is a table as maketable prints it. A line is terminals in decimal; an empty line is the empty
  * input. Each line gets one line of answer. That of a wrong line names the symbols that the terminals before
  * the place were read as: those under which the states on the stack were entered.
+ *
+ * STEP_LIMIT is up to 18446744073709551615 and 1000000 where none is given, STACK and LIST, in places, are up to 16777216
+ * and 65536 and 1000000. So no line makes more than 16842752 steps here: each passes a terminal or takes a place of LIST,
+ * but the last, which accepts.
  */
 #include <ctype.h>
 #include <errno.h>

@@ -5,6 +5,10 @@
 // TABLE is a table as maketable prints it. A line is terminals in decimal; an empty line is the empty
 // input. Each line gets one line of answer. That of a wrong line names the symbols that the terminals before
 // the place were read as: those under which the states on the stack were entered.
+//
+// STEP_LIMIT is up to 18446744073709551615 and 1000000 where none is given, STACK and LIST, in places, are up to 16777216
+// and 65536 and 1000000. So no line makes more than 16842752 steps here: each passes a terminal or takes a place of LIST,
+// but the last, which accepts.
 use sidumza::{entered, parse, read_table, terminals, Answer, Refusal};
 use std::io::{BufRead, Write};
 
@@ -59,7 +63,10 @@ fn main() {
     }
     let mut out = std::io::BufWriter::new(std::io::stdout().lock());
     for (k, line) in std::io::stdin().lock().split(b'\n').enumerate() {
-        let line = line.unwrap_or_else(|e| fail(e.to_string()));
+        let line = line.unwrap_or_else(|e| {
+            let _ = out.flush();
+            fail(e.to_string())
+        });
         let line = String::from_utf8_lossy(&line);
         let input: Option<Vec<u8>> = line.split_ascii_whitespace().map(|w| Some(number(w, 255)? as u8)).collect();
         let Some(input) = input else {

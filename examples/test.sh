@@ -74,6 +74,39 @@ for limit in 18446744073709551616 18446744073709551620 36893488147419103232 9999
     [ "$(cat "$tmp/err")" = "page: $limit: not a number up to 18446744073709551615" ] ||
         { echo "examples: $page: limit '$limit': message '$(cat "$tmp/err")'"; failed=1; }
 done
+# broken LINES EXPECTED: standard input fails behind these lines; what was answered is printed, with status 2
+broken() {
+    python3 - "$page" "$here/a.table" "$1" >"$tmp/out" 2>"$tmp/err" <<'END'
+import socket, struct, subprocess, sys
+page, table, lines = sys.argv[1:]
+server = socket.create_server(("127.0.0.1", 0))
+client = socket.create_connection(server.getsockname())
+taken = server.accept()[0]
+program = subprocess.Popen([page, table], stdin=taken.fileno())
+client.sendall(lines.encode())
+# all is read before the connection is reset
+try:
+    while program.poll() is None and taken.recv(1, socket.MSG_PEEK | socket.MSG_DONTWAIT):
+        pass
+except BlockingIOError:
+    pass
+client.setsockopt(socket.SOL_SOCKET, socket.SO_LINGER, struct.pack("ii", 1, 0))
+client.close()
+sys.exit(program.wait(20))
+END
+    status=$?
+    printf '%s\n' "$2" >"$tmp/expected"
+    same "input that breaks" "$tmp/expected"
+    if [ $status -ne 2 ] || ! grep -q '^page: ' "$tmp/err"; then
+        echo "examples: $page: input that breaks: exit $status, message '$(cat "$tmp/err")'"
+        failed=1
+    fi
+}
+
+broken "2 1
+2 2
+" "accepted: steps 5, productions 1 0
+wrong at 1: steps 1, after 2, expected 0 1"
 bad "2 x\n" "$here/a.table"
 bad "2 256\n" "$here/a.table"
 bad "2 -1\n" "$here/a.table"

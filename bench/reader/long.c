@@ -103,24 +103,27 @@ static int right(const char *who, parse_fn *parse, const struct call *c)
 
 int main(int argc, char **argv)
 {
-    int names = argc > 1 ? atoi(argv[1]) : 32, good = 1;
-    if (argc > 2 || names < 1 || names > MOST_NAMES) {
+    char *end = "";
+    long names = argc > 1 ? strtol(argv[1], &end, 10) : 32;
+    int good = 1;
+    if (argc > 2 || *end || names < 1 || names > MOST_NAMES) {
         fprintf(stderr, "long [NAMES], 1 to %d\n", MOST_NAMES);
         return 2;
     }
-    const uint64_t n = (uint64_t)1 << names, all = n + 3;
+    const uint64_t n = (uint64_t)1 << names, all = n + 3, wide = ((uint64_t)1 << 32) + 3;
     const struct call enough = {all, n, {SIDUMZA_ACCEPTED, all, 2, n}}, calls[] = {
         {n - 1, n, {SIDUMZA_STEP_LIMIT, n - 1, 2, n - 1}},
         {n, n, {SIDUMZA_STEP_LIMIT, n, 3, n - 1}},
         {n + 1, n, {SIDUMZA_STEP_LIMIT, n + 1, 4, n - 1}},
         {all - 1, n, {SIDUMZA_STEP_LIMIT, all - 1, 2, n}},
         enough,
+        {wide > all ? wide : all + 1, n, {SIDUMZA_ACCEPTED, all, 2, n}},
         {UINT64_MAX, n, {SIDUMZA_ACCEPTED, all, 2, n}},
         {UINT64_MAX, n - 1, {SIDUMZA_LIST_FULL, n + 1, 4, n - 1}},
     };
     make(names);
     list = long_list(n);
-    printf("%d names: %llu steps\n%-8s %20s %12s %6s %12s %12s %8s %6s\n", names, (unsigned long long)all, "reader",
+    printf("%ld names: %llu steps\n%-8s %20s %12s %6s %12s %12s %8s %6s\n", names, (unsigned long long)all, "reader",
            "limit", "list", "number", "steps", "listed", "seconds", "ns");
     for (size_t i = 0; i < sizeof calls / sizeof *calls; i++)
         good &= right("archive", sidumza_parse, &calls[i]);

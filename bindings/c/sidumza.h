@@ -73,7 +73,8 @@ enum {
  * What to lend: there is at most a shift for each terminal, a place of the list for each reduction, and one acceptance.
  * - So input_len + list_len + 1 steps are always enough: with that step limit 32 never comes, and the list's length
  *   bounds the steps and the time of a call, whatever the table is. The sum always fits the step limit: lengths of
- *   areas in memory are below 2^63 on x86-64. UINT64_MAX, which is above it, is no limit.
+ *   areas in memory are below 2^63 on x86-64. UINT64_MAX, which is above it, is no limit. Who allows more steps than
+ *   that gains nothing: a line of more than 2^32 steps needs a list of nearly as many places, 8.6 GB, else 34 comes.
  * - A stack of input_len + list_len + 1 places is always enough, and one of input_len + 1 where no production is empty
  *   (only a shift and an empty production's reduction push more than they pop).
  * - How many reductions an input takes is the grammar's: 34 tells that the list is too short. By JSON's table (examples/)
@@ -86,14 +87,16 @@ enum {
  *
  * To callers of the call whose step_limit was a uint32_t:
  * - Compile again, with this header, every file that calls it, and link with the archive that belongs to this header.
- *   The name is the same, so the link does not notice: an object of the old header leaves the upper half of the
- *   parameter's place open, so that its limit would be any number; the old archive takes the lower half of the limit
- *   alone. Declarations by hand, such as those of other languages, must be widened, too.
- * - No source has to be changed where an unsigned number of 32 bits is passed: it means what it meant, with the same
- *   end and the same counts. UINT32_MAX is still that number, and no longer the largest: UINT64_MAX is. What was
- *   negative or above UINT32_MAX was taken modulo 2^32, and is now taken modulo 2^64.
+ *   The name is the same, so the link does not notice. An object of the old header leaves the upper half of the
+ *   parameter's place open, so that its limit may grow by any multiple of 2^32; what is open is mostly 0, so a test
+ *   may not show it. The old archive takes the lower half of the limit alone: a call with limit 2^32 that answers 32
+ *   with 0 steps is one of it.
+ * - Declarations and types of function pointers that are written by hand, also in other languages, must be widened.
+ * - Else no source has to be changed where an unsigned number of 32 bits is passed: it means what it meant, with the
+ *   same end and the same counts. UINT32_MAX is still that number, and no longer the largest: who means no limit passes
+ *   UINT64_MAX. What was negative or above UINT32_MAX was taken modulo 2^32, and is now taken modulo 2^64.
  * - A place that keeps out[SIDUMZA_STEPS] in 32 bits must be widened, unless the limits stay below 2^32: no count passes
- *   its limit.
+ *   its limit. (-Wconversion finds such places, -Wall and -Wextra do not.)
  *
  * Every content of the table and the input, and every length, is answered: nothing is asked of them.
  * To the caller is left:

@@ -5,7 +5,7 @@
 //! describes the table and the areas, and says how long they should be.
 //!
 //! [`read_table`] reads a table from the text that `maketable` prints; [`entered`] gives the symbols under which its
-//! states are entered. With the feature `generator` the module [`generator`] makes tables; it needs the archive
+//! states are entered. With the feature `generator` the module `generator` makes tables; it needs the archive
 //! `libgenerator_c.a`. The feature `parser`, on where nothing else is said, is the parser.
 
 #[cfg(feature = "generator")]
@@ -93,14 +93,15 @@ mod archive {
 /// After an end the used places of `stack` and `list` hold states and productions; popped places
 /// of `stack` are 0, and places never used are unchanged.
 ///
-/// `step_limit` is how many steps may be made. `input.len() + list.len() + 1` are always enough, and `u64::MAX` is no
-/// limit.
+/// `step_limit` is how many steps may be made. `(input.len() + list.len() + 1) as u64` are always enough, and
+/// `u64::MAX` is no limit.
 ///
 /// To callers of the function whose `step_limit` was a `u32`: a number of 32 bits is passed as `u64::from(..)` and
-/// means what it meant, with the same answer and counts; `u32::MAX` is no longer the largest limit; [`Counts::steps`]
-/// is a `u64`, and a place that keeps it must be widened, unless the limits stay below 2^32: no count passes its limit. The compiler finds these places, but no declaration of
-/// `sidumza_parse` by hand: that must be widened, too. The archive must be the one that belongs to this crate: an older
-/// one takes the lower half of the limit alone.
+/// means what it meant, with the same answer and counts; who means no limit passes `u64::MAX` in place of `u32::MAX`;
+/// [`Counts::steps`] is a `u64`, and a place that keeps it in 32 bits must be widened, unless the limits stay below
+/// 2^32: no count passes its limit. The compiler finds these places, but for `as` casts, types that are inferred
+/// (`"..".parse()`, `to_le_bytes()`) and declarations of `sidumza_parse` by hand. The archive must be the one that
+/// belongs to this crate: an older one takes the lower half of the limit alone.
 #[cfg(feature = "parser")]
 pub fn parse(table: &[u16], input: &[u8], stack: &mut [u16], list: &mut [u16], step_limit: u64) -> Answer {
     let mut out = [0u64; 7];
