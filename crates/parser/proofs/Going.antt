@@ -20,7 +20,7 @@ use Rattle.steps.specs.declared.State.{State}
 use Rattle.parser.specs.Answer.{numbers}
 use Rattle.parser.specs.Phases.{reached, acceptedAt, Countable, Ends}
 use Rattle.parser.specs.declared.Answer.{Answer}
-use Rattle.parser.proofs.Held.{held-start, countable, action-is}
+use Rattle.parser.proofs.Held.{held-start, action-is}
 
 -- the machine as the loop starts, with state 0 on the stack
 abbrev pub begun : List ℕ → List ℕ → Machine
@@ -29,16 +29,23 @@ begun st li = record { stack = st; list = li; depth = 1; listed = 0; position = 
 pub record Going (t l cs st₀ li₀ : List ℕ) (a : ℕ) (z : Shape) (st li : List ℕ) (s : State) : Type 0 where
   pub same : run t l (s .left) (machineOf st li s) ≡ run t l a (begun st₀ li₀)
   pub held : Held t cs st li z s
+  -- the limit is what is made and what is left
+  pub spent : s .position + s .listed + s .left ≡ a
   pub stacks : length st ≡ length st₀
   pub lists : length li ≡ length li₀
 
 -- before the first step no step is made
 pub going-start : {t l cs li : List ℕ} {z : Shape} (st : List ℕ) (a : ℕ) → Passed t l (length st) → Shaped t z → cs ≡ drop (z .cells) t
     → Going t l cs (set st 0 0) li a z (set st 0 0) li (record { depth = 1; listed = 0; position = 0; left = a; top = 0 })
-going-start st a p s e = record { same = refl; held = held-start st a p s e; stacks = refl; lists = refl }
+going-start st a p s e = record { same = refl; held = held-start st a p s e; spent = omega arith; stacks = refl; lists = refl }
 
-pub countable-now : {t l cs st₀ li₀ st li : List ℕ} {a : ℕ} {z : Shape} {s : State} → Going t l cs st₀ li₀ a z st li s → length li₀ < 2 ^ 63 → Countable s
-countable-now g f = countable (g .held) (rw (g .lists) f)
+-- under a limit of w bits the steps made have w bits, and where one is left the next does, too
+module _ {t l cs st₀ li₀ st li : List ℕ} {a : ℕ} {z : Shape} {s : State} (g : Going t l cs st₀ li₀ a z st li s) (w : ℕ) (f : a < 2 ^ w) where
+  pub countable : Countable w s
+  countable = omega (arith, g .spent)
+
+  pub countable-next : (s .left ≡ 0 → ⊥) → s .position + s .listed + 1 < 2 ^ w
+  countable-next more = omega (arith, g .spent, more)
 
 module _ {t : List ℕ} {r : Answer} where
   ends-31 : (m : Machine) (o : Outcome) → record { number = 31; final = m } ≡ o → numbers r ≡ numbersOf (wrongAt t m) → Ends t o r (m .stack) (m .list)
@@ -98,6 +105,7 @@ module _ {t l cs st₀ li₀ : List ℕ} {a : ℕ} {z : Shape} {st li : List ℕ
           goes-on es el = record {
             same = ap (λ (n : ℕ). run t l n (machineOf st′ li′ s′)) (omega (arith, y .held .1)) ∙ stepped (y .next);
             held = y .held .0;
+            spent = omega (arith, y .held .1, y .held .2, g .spent);
             stacks = es ∙ g .stacks;
             lists = el ∙ g .lists;
           }

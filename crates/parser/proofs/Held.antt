@@ -16,7 +16,7 @@ use Rattle.machine.proofs.Checked.{Checked, Passed, shift-passed, reduce-passed
 use Rattle.steps.specs.State.{machineOf, Held, Steppable}
 use Rattle.steps.specs.declared.State.{State}
 use Rattle.parser.specs.Answer.{countsOf, numbers}
-use Rattle.parser.specs.Phases.{reached, Countable}
+use Rattle.parser.specs.Phases.{reached}
 use Rattle.parser.specs.declared.Counts.{Counts}
 use Rattle.parser.specs.declared.Answer.the-variants.{NoAction}
 
@@ -58,10 +58,6 @@ module _ {t cs st li : List ℕ} {z : Shape} {s : State} (h : Held t cs st li z 
   top-in : s .top < states t
   unfolding topOf
   top-in = rw (h .top-is, ← h .shaped .states-are) (h .states-in (s .depth - 1) (let d = h .deep in omega arith))
-
-  -- the steps can be added up: a list area is shorter than that
-  pub countable : length li < 2 ^ 63 → Countable s
-  countable f = omega (arith, h .passed, h .room)
 
   -- the expected set is read from the top state's row
   pub row-in : (z .terminals ≤ 64) × (s .top * z .width + z .terminals ≤ length cs)

@@ -16,9 +16,13 @@ reached s = (s .position + s .listed) ∷ s .depth ∷ s .listed ∷ []
 abbrev pub acceptedAt : State → List ℕ
 acceptedAt s = (s .position + s .listed + 1) ∷ s .depth ∷ s .listed ∷ []
 
--- the code can add the steps up
-abbrev pub Countable : State → Type 0
-Countable s = s .position + s .listed + 1 < 2 ^ 64
+-- how many bits the step limit and the count have in the code; no law knows it
+abbrev pub countBits : ℕ
+countBits = 64
+
+-- the steps made are a number of w bits
+abbrev pub Countable : ℕ → State → Type 0
+Countable w s = s .position + s .listed < 2 ^ w
 
 -- the answer and both areas at exit are those of an outcome of the machine
 pub record Ends (t : List ℕ) (o : Outcome) (r : Answer) (st li : List ℕ) : Type 0 where

@@ -7,14 +7,14 @@ use table_checks::Verdict;
 use tables::Shape;
 ghost use mathlib.Core.Path.{_≡_};
 ghost use mathlib.Core.List.{List, _∷_};
-ghost use Prim.Native.Nat.{ℕ, _+_, _*_, _≤_};
+ghost use Prim.Native.Nat.{ℕ, _+_, _*_, _^_, _<_, _≤_};
 ghost use lib.ListN.{length};
 ghost use Rattle.machine.specs.Checks.{refusalOf};
 ghost use Rattle.machine.specs.Report.{numbersOf};
 ghost use Rattle.machine.specs.ComputedRun.{run as runs, start, wrongAt, reading};
 ghost use Rattle.steps.specs.State.{machineOf, stopNumber, Held};
 ghost use Rattle.parser.specs.Answer.{countsOf, numbers, ReadsAs};
-ghost use Rattle.parser.specs.Phases.{reached, acceptedAt, Countable, Ends};
+ghost use Rattle.parser.specs.Phases.{reached, acceptedAt, countBits, Countable, Ends};
 ghost use Rattle.parser.specs.Terminals.{Lists};
 
 // The steps made, the stack places in use and the productions listed.
@@ -43,7 +43,7 @@ pub enum Answer {
 }
 
 fn count(s: State) -> Counts
-    requires { ⌜ Countable s ⌝ }
+    requires { ⌜ Countable countBits s ⌝ }
     ensures { λ r. ⌜ countsOf r ≡ reached s ⌝ }
 {
     Counts {
@@ -54,7 +54,7 @@ fn count(s: State) -> Counts
 }
 
 fn no_action(cells: &[u16], z: Shape, s: State) -> Answer
-    requires { ⌜ (z .terminals ≤ 64) × (s .top * z .width + z .terminals ≤ length (now cells)) × (Countable s) ⌝ }
+    requires { ⌜ (z .terminals ≤ 64) × (s .top * z .width + z .terminals ≤ length (now cells)) × (Countable countBits s) ⌝ }
     ensures { λ r. ⌜ ((t st li : List ℕ) → Held t (now (cells .entry)) st li z s → numbers r ≡ numbersOf (wrongAt t (machineOf st li s))) ⌝ }
 {
     let word = steps::expected(cells, z, s.top);
@@ -69,7 +69,7 @@ fn no_action(cells: &[u16], z: Shape, s: State) -> Answer
 }
 
 fn stopped(e: Stop, s: State) -> Answer
-    requires { ⌜ Countable s ⌝ }
+    requires { ⌜ Countable countBits s ⌝ }
     ensures { λ r. ⌜ numbers r ≡ stopNumber e ∷ reached s ⌝ }
 {
     let c = count(s);
@@ -82,7 +82,7 @@ fn stopped(e: Stop, s: State) -> Answer
 
 // Acceptance is a step of its own.
 fn accepted(s: State) -> Answer
-    requires { ⌜ Countable s ⌝ }
+    requires { ⌜ s .position + s .listed + 1 < 2 ^ countBits ⌝ }
     ensures { λ r. ⌜ numbers r ≡ 0 ∷ acceptedAt s ⌝ }
 {
     Answer::Accepted(Counts {

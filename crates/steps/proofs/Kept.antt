@@ -70,7 +70,7 @@ module _ {t cs st li : List ℕ} {z : Shape} {s : State} where
       (shifted a (machineOf st li s))
   shift-goes h more a b p k = record {
     next = let e : s .position + 1 + s .listed ≡ s .position + s .listed + 1 = omega arith in rw e (sym (shifted-goes a (machineOf st li s) k));
-    held = (kept-shift h a b p k, omega arith);
+    held = (kept-shift h a b p k, omega arith, omega arith);
   }
 
   module _ {r n under : ℕ} (g : Reducible t cs st li z s r n under) where
@@ -133,7 +133,7 @@ module _ {t cs st li : List ℕ} {z : Shape} {s : State} where
               rw e
               (reducedTo-goes r n (s .depth - n) q (machineOf st li s) p ep e₀ k
               ∙ ap (λ (v : ℕ). reducedTo r n (s .depth - n) v (machineOf st li s)) goto-is);
-          held = (kept-reduce ep k, let b = g .more in omega arith);
+          held = (kept-reduce ep k, (let b = g .more in omega arith), omega arith);
         }
 
     -- the reduction of a production's own length

@@ -45,10 +45,10 @@ pub record Held (t cs st li : List ℕ) (z : Shape) (s : State) : Type 0 where
   pub states-in : (i : ℕ) → i < s .depth → getD st i 0 < z .states
   pub top-is : s .top ≡ machine.topOf st (s .depth)
 
--- the same after a step from s, where the machine goes on, with one step less left
+-- the same after a step from s, where the machine goes on: one step fewer is left, and one more is made
 abbrev pub HeldNext : List ℕ → List ℕ → List ℕ → List ℕ → Shape → State → Next → Type 0
 HeldNext t cs st li z s (Ended e) = Unit {0}
-HeldNext t cs st li z s (Moved n) = Held t cs st li z n × (n .left + 1 ≡ s .left)
+HeldNext t cs st li z s (Moved n) = Held t cs st li z n × (n .left + 1 ≡ s .left) × (n .position + n .listed ≡ s .position + s .listed + 1)
 HeldNext t cs st li z s Accepted = Unit {0}
 
 -- the step from s that answers x, with the areas at its exit, is the machine's m

@@ -4,11 +4,11 @@ use mathlib.Core.Path.{ap, _∙_}
 use mathlib.Core.List.{List, _∷_}
 use Prim.Native.Nat.{ℕ}
 use lib.ListN.{length-set}
-use native.Mathlib.Omega.{arith}
 use Rattle.machine.specs.ComputedRun.{start}
 use Rattle.machine.proofs.Checked.{passed, cells-within}
+use Rattle.parser.specs.Phases.{countBits}
 use Rattle.parser.proofs.Held.{action-within, row-in, steppable}
-use Rattle.parser.proofs.Going.{Going, going-start, countable-now, stop-31, stop-32, stop-step, accept-step, falls, goes-on}
+use Rattle.parser.proofs.Going.{Going, going-start, countable, countable-next, stop-31, stop-32, stop-step, accept-step, falls, goes-on}
 use Rattle.parser.proofs.run.Statement.{statement}
 use Rattle.parser.proofs.run.Tie as tie
 
@@ -37,7 +37,7 @@ no-action-requires : tie.Need-no-action-requires Inv-loop μ-loop
 no-action-requires c κs =
     let b2 = c .before .before in
     let r = row-in (b2 .loop .inv .held) in
-    (r .0, r .1, countable-now (b2 .loop .inv) (omega (arith, b2 .before .before .before .before .before .before .before .good)))
+    (r .0, r .1, countable (b2 .loop .inv) countBits (b2 .before .before .before .before .before .before .before .fits .step-limit .fits))
 
 same-length : tie.Need-same-length Inv-loop μ-loop
 same-length c = c .before .before .before .loop .inv .stacks ∙ simp length-set
@@ -49,7 +49,7 @@ returns c =
     stop-31 (b3 .loop .inv) (passed _ _ _ (b3 .before .before .before .before .before .before .before .pre)) (c .before .before .action .ensures .0) (c .before .if1 .taken) (c .no-action .ensures _ _ _ (b3 .loop .inv .held))
 
 count-requires : tie.Need-count-requires Inv-loop μ-loop
-count-requires c κs = let b4 = c .before .before .before .before in countable-now (b4 .loop .inv) (omega (arith, b4 .before .before .before .before .before .before .before .good))
+count-requires c κs = let b4 = c .before .before .before .before in countable (b4 .loop .inv) countBits (b4 .before .before .before .before .before .before .before .fits .step-limit .fits)
 
 same-length-3 : tie.Need-same-length-3 Inv-loop μ-loop
 same-length-3 c = c .before .before .before .before .before .loop .inv .stacks ∙ simp length-set
@@ -70,7 +70,7 @@ stopped-requires : tie.Need-stopped-requires Inv-loop μ-loop
 stopped-requires c κs =
     let b7 = c .before .before .before .before .before .before .before in
     let b14 = b7 .before .before .before .before .before .before .before in
-    countable-now (b14 .loop .inv) (omega (arith, b14 .before .before .before .before .before .before .before .good))
+    countable (b14 .loop .inv) countBits (b14 .before .before .before .before .before .before .before .fits .step-limit .fits)
 
 same-length-5 : tie.Need-same-length-5 Inv-loop μ-loop
 same-length-5 c = let b8 = c .before .before .before .before .before .before .before .before in b8 .step .kept .1 .1 .0 ∙ b8 .before .before .before .before .before .before .before .loop .inv .stacks ∙ simp length-set
@@ -101,7 +101,7 @@ accepted-requires : tie.Need-accepted-requires Inv-loop μ-loop
 accepted-requires c κs =
     let b6 = c .before .before .before .before .before .before in
     let b13 = b6 .before .before .before .before .before .before .before in
-    countable-now (b13 .loop .inv) (omega (arith, b13 .before .before .before .before .before .before .before .good))
+    countable-next (b13 .loop .inv) countBits (b13 .before .before .before .before .before .before .before .fits .step-limit .fits) (b6 .before .before .before .if2 .left)
 
 same-length-7 : tie.Need-same-length-7 Inv-loop μ-loop
 same-length-7 c = let b7 = c .before .before .before .before .before .before .before in b7 .step .kept .1 .1 .0 ∙ b7 .before .before .before .before .before .before .before .loop .inv .stacks ∙ simp length-set
