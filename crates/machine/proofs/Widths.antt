@@ -1,17 +1,29 @@
--- No reading depends on how wide limit and count are, and a count needs no more bits than its limit: for any table.
-use Prim.Native.Nat.{ℕ, _^_, _+_, _<_, _≤_}
-use mathlib.Core.Path.{_≡_, refl, sym, _∙_}
-use mathlib.Core.Logic.{_↔_}
+-- A reader whose limit and count have w bits gives, under each limit of w bits, the reading of the definition and no other; and no count passes its limit.
+use Prim.Native.Nat.{ℕ, zero, suc, _+_, _-_, _%_, _^_, _<_, _≤_}
+use mathlib.Core.Path.{_≡_, refl, sym, ap, subst, _∙_}
+use mathlib.Core.Logic.{_≢_, _↔_}
+use mathlib.Core.Bool.{Bool, true, false, cond}
 use mathlib.Core.List.{List}
+use lib.ListN.{length}
+use lib.Dec.{ltb, eqb}
+use borrow.Author.Tests.{ne-eqb}
 use native.Mathlib.Omega.{arith}
+use native.Mathlib.Nat.{mod-eq-of-lt}
+use native.Mathlib.Decide.{ℕ-discrete}
+use Rattle.tables.specs.Layout.{leftOf, lengthOf, accept, cellOf}
+use Rattle.machine.specs.Checks.{refusalOf}
 use Rattle.machine.specs.Report.{Reading, stepsOf}
 use Rattle.machine.specs.Faithful.{Allowed, Stops, accepted-here, wrong-here, no-steps, list-full, broken-here, stack-full, Faithful}
 use Rattle.machine.specs.Reads.{Reads, refuses, reads}
-use Rattle.machine.specs.ComputedRun.{reading}
-use Rattle.machine.specs.Widths.{ReadsIn}
+use Rattle.machine.specs.ComputedRun.{Machine, Next, ended, moved, accepted, topOf, actionOf, movedBy, shifted, reduced, reducedTo, Outcome, after, run, start, reportOf, reading}
+use Rattle.machine.specs.Widths as widths
+use Rattle.machine.specs.Widths.{counting, RunsIn, wrong, spent, stops, accepts, goes-on, ReadsIn, OldLimits}
 use Rattle.machine.proofs.LrMachineLaws.{Config, own-steps}
 use Rattle.machine.proofs.ReportLaws.{count-is}
-use Rattle.machine.proofs.ReadsLaws.{reads-some, reads-exactly}
+use Rattle.machine.proofs.RunLaws.{run-wrong, run-none, run-more}
+use Rattle.machine.proofs.ReadsLaws.{unrefused, refused-is, reads-some, reads-exactly}
+
+-- ---- no count passes its limit
 
 -- acceptance is a step itself, and is made only where one is left
 own-left : {t : List ℕ} {a : Allowed} {c : Config} {n : ℕ} → Stops t a c n → own-steps n ≤ a .steps
@@ -22,28 +34,129 @@ own-left (list-full _ _ _) = omega arith
 own-left (broken-here _ _ _) = omega arith
 own-left (stack-full _ _ _ _) = omega arith
 
-module _ {t l st li : List ℕ} {a : ℕ} where
-  -- no count passes its limit
-  pub count-most : {r : Reading} → Reads t l st li a r → stepsOf r ≤ a
-  count-most (refuses _ _) = omega arith
-  count-most (reads _ f) = omega (arith, count-is f, own-left (f .why), f .budget)
+pub count-most : {t l st li : List ℕ} {a : ℕ} {r : Reading} → Reads t l st li a r → stepsOf r ≤ a
+count-most (refuses _ _) = omega arith
+count-most (reads _ f) = omega (arith, count-is f, own-left (f .why), f .budget)
 
-  -- a limit of w bits gives a count of w bits
-  pub counted : (w : ℕ) {r : Reading} → a < 2 ^ w → Reads t l st li a r → ReadsIn w t l st li a r
-  counted w h d = record { handed = h; reads = d; given = omega (arith, h, count-most d) }
+-- so a limit of w bits gives a count of w bits
+pub count-in : {t l st li : List ℕ} {a : ℕ} (w : ℕ) {r : Reading} → a < 2 ^ w → Reads t l st li a r → stepsOf r < 2 ^ w
+count-in w h d = omega (arith, h, count-most d)
 
-module _ (t l st li : List ℕ) (a : ℕ) where
-  -- for each limit of w bits there is one reading in w bits
-  pub some-in : (w : ℕ) → a < 2 ^ w → ReadsIn w t l st li a (reading t l st li a)
-  some-in w h = counted w h (reads-some t l st li a)
+-- ---- a count of w bits is the count
 
-  pub only-in : (w : ℕ) (r : Reading) → ReadsIn w t l st li a r → r ≡ reading t l st li a
-  only-in w r g = reads-exactly t l st li a r .0 (g .reads)
+start-none : (st li : List ℕ) (a : ℕ) → start st li .steps + a ≡ a
+unfolding start
+start-none st li a = omega arith
 
-  -- and it is the same in all widths that have the limit
-  pub either-width : (v w : ℕ) → a < 2 ^ v → a < 2 ^ w → (r : Reading) → ReadsIn v t l st li a r ↔ ReadsIn w t l st li a r
-  either-width v w h k r = (λ g. counted w k (g .reads), λ g. counted v h (g .reads))
+-- what a step makes has one step more
+data Counts (n : ℕ) : Next → Type 0 where
+  ends : {i : ℕ} {m : Machine} → Counts n (ended i m)
+  moves : {m : Machine} → m .steps ≡ n + 1 → Counts n (moved m)
+  accepted-at : {m : Machine} → m .steps ≡ n + 1 → Counts n (accepted m)
 
-  -- "A reading that ended under an old allowance has the same end and count under that number now": limits had 32 bits, and have 64
-  pub old-limit : a < 2 ^ 32 → (r : Reading) → ReadsIn 32 t l st li a r ↔ ReadsIn 64 t l st li a r
-  old-limit h = either-width 32 64 h (omega arith)
+either : (n : ℕ) (b : Bool) {x y : Next} → Counts n x → Counts n y → Counts n (cond b x y)
+either n true f g = f
+either n false f g = g
+
+step-counts : (t : List ℕ) (a : ℕ) (m : Machine) → Counts (m .steps) (movedBy t a m)
+unfolding movedBy shifted reduced reducedTo
+step-counts t a m =
+    either (m .steps) (ltb a 1024) (either (m .steps) (ltb (m .depth) (length (m .stack))) (moves refl) ends)
+    (either (m .steps) (eqb a accept) (accepted-at refl)
+    (either (m .steps) (ltb (m .listed) (length (m .list)))
+    (either (m .steps) (ltb (lengthOf t (a - 1024)) (m .depth))
+    (either (m .steps) (eqb (cellOf t (topOf (m .stack) (m .depth - lengthOf t (a - 1024))) (leftOf t (a - 1024))) 0) ends
+    (either (m .steps) (ltb (m .depth - lengthOf t (a - 1024)) (length (m .stack))) (moves refl) ends))
+    ends)
+    ends))
+
+module _ (w : ℕ) (t l : List ℕ) (a : ℕ) (f : a < 2 ^ w) where
+  limit-is : a % 2 ^ w ≡ a
+  limit-is = mod-eq-of-lt f
+
+  -- while the count is within the limit, w bits hold it
+  same-count : (m : Machine) → m .steps ≤ a → counting w m ≡ m
+  same-count m h = let e : m .steps % 2 ^ w ≡ m .steps = mod-eq-of-lt (omega (arith, f)) in rw e refl
+
+  not-yet : {n : ℕ} (k : ℕ) → n + suc k ≡ a → n ≢ a % 2 ^ w
+  not-yet k e z = omega (arith, limit-is)
+
+  -- the step that is made where one is left, and what comes of it
+  module _ (k : ℕ) (m : Machine) (e : m .steps + suc k ≡ a) (n : actionOf t l m ≢ 0) where
+    more : run t l (suc k) m ≡ after (run t l k) (movedBy t (actionOf t l m) m)
+    unfolding run
+    more = rw (ne-eqb (actionOf t l m) 0 n) refl
+
+    goes : ((m′ : Machine) → m′ .steps + k ≡ a → RunsIn w t l a m′ (run t l k m′)) → (x : Next) → movedBy t (actionOf t l m) m ≡ x → Counts (m .steps) x
+        → RunsIn w t l a m (after (run t l k) x)
+    unfolding after
+    goes ih (ended i m′) h c = stops n (not-yet k e) h
+    goes ih (moved m′) h (moves s) =
+        goes-on n (not-yet k e) h (subst (λ (z : Machine). RunsIn w t l a z (run t l k m′)) (sym (same-count m′ (omega arith))) (ih m′ (omega arith)))
+    goes ih (accepted m′) h (accepted-at s) =
+        subst (λ (z : Machine). RunsIn w t l a m (record { number = 0; final = z })) (same-count m′ (omega arith)) (accepts n (not-yet k e) h)
+
+  runs : (k : ℕ) (m : Machine) → m .steps + k ≡ a → RunsIn w t l a m (run t l k m)
+  runs zero m e = go (ℕ-discrete (actionOf t l m) 0)
+    where
+      go : Dec (actionOf t l m ≡ 0) → RunsIn w t l a m (run t l zero m)
+      go (yes z) = rw (run-wrong t l m zero z) (wrong z)
+      go (no n) = rw (run-none t l m zero refl n) (spent n (omega (arith, limit-is)))
+  runs (suc k) m e = go (λ m′ h. runs k m′ h) (ℕ-discrete (actionOf t l m) 0)
+    where
+      go : ((m′ : Machine) → m′ .steps + k ≡ a → RunsIn w t l a m′ (run t l k m′)) → Dec (actionOf t l m ≡ 0) → RunsIn w t l a m (run t l (suc k) m)
+      go ih (yes z) = rw (run-wrong t l m (suc k) z) (wrong z)
+      go ih (no n) = rw (more k m e n) (goes k m e n ih (movedBy t (actionOf t l m) m) refl (step-counts t (actionOf t l m) m))
+
+  module _ (m m′ : Machine) where
+    moved-counts : movedBy t (actionOf t l m) m ≡ moved m′ → m′ .steps ≡ m .steps + 1
+    moved-counts h = go (subst (Counts (m .steps)) h (step-counts t (actionOf t l m) m))
+      where
+        go : Counts (m .steps) (moved m′) → m′ .steps ≡ m .steps + 1
+        go (moves s) = s
+
+    accepted-counts : movedBy t (actionOf t l m) m ≡ accepted m′ → m′ .steps ≡ m .steps + 1
+    accepted-counts h = go (subst (Counts (m .steps)) h (step-counts t (actionOf t l m) m))
+      where
+        go : Counts (m .steps) (accepted m′) → m′ .steps ≡ m .steps + 1
+        go (accepted-at s) = s
+
+  only-run : {m : Machine} {o : Outcome} → RunsIn w t l a m o → (k : ℕ) → m .steps + k ≡ a → o ≡ run t l k m
+  unfolding after
+  only-run {m} (wrong z) k e = sym (run-wrong t l m k z)
+  only-run {m} (spent n s) k e = sym (run-none t l m k (omega (arith, limit-is)) n)
+  only-run (stops n ne h) zero e = absurd (ne (omega (arith, limit-is)))
+  only-run {m} (stops n ne h) (suc k) e = sym (more k m e n ∙ ap (after (run t l k)) h)
+  only-run (accepts n ne h) zero e = absurd (ne (omega (arith, limit-is)))
+  only-run {m} (accepts {m′ = m′} n ne h) (suc k) e =
+      let s = accepted-counts m m′ h in
+      ap (λ (z : Machine). record { number = 0; final = z }) (same-count m′ (omega arith)) ∙ sym (more k m e n ∙ ap (after (run t l k)) h)
+  only-run (goes-on n ne h r) zero e = absurd (ne (omega (arith, limit-is)))
+  only-run {m} (goes-on {m′ = m′} n ne h r) (suc k) e =
+      let s = moved-counts m m′ h in
+      let c = same-count m′ (omega arith) in
+      let z = ap (λ (z : Machine). z .steps) c in
+      only-run r k (omega (arith, z)) ∙ ap (run t l k) c ∙ sym (more k m e n ∙ ap (after (run t l k)) h)
+
+-- ---- so a reading in w bits is the reading
+
+module _ (w : ℕ) (t l st li : List ℕ) (a : ℕ) (f : a < 2 ^ w) where
+  pub some-in : ReadsIn w t l st li a (reading t l st li a)
+  some-in = go (ℕ-discrete (refusalOf t l (length st)) 0)
+    where
+      go : Dec (refusalOf t l (length st) ≡ 0) → ReadsIn w t l st li a (reading t l st li a)
+      go (yes e) = rw (unrefused t l st li a e (run t l a (start st li)) refl) (widths.reads e (runs w t l a f a (start st li) (start-none st li a)))
+      go (no n) = rw (refused-is t l st li a (refusalOf t l (length st)) refl n) (widths.refuses refl n)
+
+  pub only-in : (r : Reading) → ReadsIn w t l st li a r → r ≡ reading t l st li a
+  only-in r (widths.refuses {n} e ne) = sym (refused-is t l st li a n e ne)
+  only-in r (widths.reads {o} e d) = sym (unrefused t l st li a e o (sym (only-run w t l a f d a (start-none st li a))))
+
+  -- "One proof serves either width": this one is for every w
+  pub in-width : (r : Reading) → ReadsIn w t l st li a r ↔ Reads t l st li a r
+  in-width r = (λ d. reads-exactly t l st li a r .1 (only-in r d), λ d. rw (reads-exactly t l st li a r .0 d) some-in)
+
+pub old-limits : OldLimits
+old-limits t l st li a f r =
+    let g : a < 2 ^ 64 = omega (arith, f) in
+    (λ d. in-width 64 t l st li a g r .1 (in-width 32 t l st li a f r .0 d), λ d. in-width 32 t l st li a f r .1 (in-width 64 t l st li a g r .0 d))

@@ -7,8 +7,8 @@ use native.Mathlib.Omega.{arith}
 use lib.ListN.{length, getD}
 use Rattle.machine.specs.Checks.{refusalOf}
 use Rattle.machine.specs.ComputedRun.{run, start, reading}
-use Rattle.machine.proofs.ReadsLaws.{unrefused, refused-is}
-use Rattle.machine.proofs.Widths.{some-in}
+use Rattle.machine.proofs.ReadsLaws.{unrefused, refused-is, reads-some}
+use Rattle.machine.proofs.Widths.{count-in}
 use Rattle.table_checks.specs.Verdict.{refusalNumber}
 use Rattle.table_checks.specs.declared.Refusal.{Refusal}
 use Rattle.table_checks.specs.declared.Refusal.the-variants.{TableShort, SizesWrong, ProductionWrong, CellWrong, EntryWrong, InputLong, TerminalWrong, NoStack}
@@ -36,4 +36,4 @@ module _ (t l st li : List ℕ) (a : ℕ) where
 
   -- the count that is answered has no more bits than the limit
   pub answered-in : (w : ℕ) {r : Answer} {st′ li′ : List ℕ} → a < 2 ^ w → ReadsAs (reading t l st li a) r st′ li′ → getD (numbers r) 1 0 < 2 ^ w
-  answered-in w f h = rw (h .answer) (some-in t l st li a w f .given)
+  answered-in w f h = rw (h .answer) (count-in w f (reads-some t l st li a))
