@@ -126,9 +126,10 @@ static void show(const uint64_t *out, const uint16_t *table, size_t table_len, c
     putchar('\n');
 }
 
-int main(int argc, char **argv)
+/* The step limit and the lengths of stack and list, where arguments give them. */
+static void arguments(int argc, char **argv, uint64_t limits[3])
 {
-    uint64_t limits[3] = {1000000, 65536, 1000000}, most[3] = {UINT64_MAX, 1ul << 24, 1ul << 24};
+    static const uint64_t most[3] = {UINT64_MAX, 1 << 24, 1 << 24};
     if (argc < 2 || argc > 5)
         fail("usage: page TABLE [STEP_LIMIT [STACK [LIST]]]");
     for (int i = 2; i < argc; i++) {
@@ -136,6 +137,12 @@ int main(int argc, char **argv)
         if (!number(&s, most[i - 2], &limits[i - 2]) || *s)
             fail("%s: not a number up to %llu", argv[i], (unsigned long long)most[i - 2]);
     }
+}
+
+int main(int argc, char **argv)
+{
+    uint64_t limits[3] = {1000000, 65536, 1000000};
+    arguments(argc, argv, limits);
     static uint16_t table[SIDUMZA_TABLE_MOST];
     size_t table_len = load(argv[1], table, SIDUMZA_TABLE_MOST);
     uint16_t *stack = room(NULL, limits[1] * sizeof *stack), *list = room(NULL, limits[2] * sizeof *list);

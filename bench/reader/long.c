@@ -1,8 +1,8 @@
-/* One line of more than 2^32 steps, under limits on both sides of 2^32 and of what it takes: long [NAMES]
+/* One input of more than 2^32 steps, under limits on both sides of 2^32 and of what it takes: long [NONTERMINALS]
  *
- * The card: S -> A1 1 2, A1 -> A2 A2, A2 -> A3 A3, .., and the last of NAMES names (32) is empty. Each name is reduced
- * twice as often as the one before, so the line 1 2 takes 1 + 2 + 4 + .. = 2^NAMES - 1 reductions of names, then the
- * shifts of 1 and 2, the reduction of S and the acceptance: 2^NAMES + 3 steps, 2^NAMES of them listed.
+ * The card: S -> A1 1 2, A1 -> A2 A2, A2 -> A3 A3, .., and the last of n nonterminals (NONTERMINALS, 32) is empty. Each
+ * is reduced twice as often as the one before, so the input 1 2 takes 1 + 2 + 4 + .. = 2^n - 1 reductions of them, then
+ * the shifts of 1 and 2, the reduction of S and the acceptance: 2^n + 3 steps, 2^n of them listed.
  *
  * Prints seconds and nanoseconds a step. Exit status 0: every answer is the one that follows from these numbers;
  * 1: one is not; 2: trouble. */
@@ -17,7 +17,7 @@
 #include "sidumza.h"
 #include "sidumza_generator.h"
 
-enum { MOST_NAMES = 36, STACK = 100, PIECE = 1 << 26 };
+enum { MOST_NONTERMINALS = 36, STACK = 100, PIECE = 1 << 26 };
 
 static uint16_t table[SIDUMZA_TABLE], stack[STACK], *list;
 
@@ -54,18 +54,18 @@ static uint16_t *long_list(size_t places)
     return (uint16_t *)area;
 }
 
-/* Makes the table of the card above. S is 3, the names are 4, 5, .. */
-static void make(unsigned names)
+/* Makes the table of the card above. S is 3, the others are 4, 5, .. */
+static void make(unsigned nonterminals)
 {
     static uint64_t words[SIDUMZA_WORDS];
     static uint32_t halves[SIDUMZA_HALVES];
-    uint16_t card[4 + 4 * (MOST_NAMES + 1) + 1] = {3, names + 1, names + 1, 2 * names + 1};
-    uint16_t *left = card + 4, *length = left + names + 1, *right = length + names + 1;
+    uint16_t card[4 + 4 * (MOST_NONTERMINALS + 1) + 1] = {3, nonterminals + 1, nonterminals + 1, 2 * nonterminals + 1};
+    uint16_t *left = card + 4, *length = left + nonterminals + 1, *right = length + nonterminals + 1;
     uint64_t out[5];
     left[0] = 3, length[0] = 3;
     *right++ = 4, *right++ = 1, *right++ = 2;
-    for (unsigned i = 1; i <= names; i++) {
-        left[i] = 3 + i, length[i] = i < names ? 2 : 0;
+    for (unsigned i = 1; i <= nonterminals; i++) {
+        left[i] = 3 + i, length[i] = i < nonterminals ? 2 : 0;
         for (unsigned k = 0; k < length[i]; k++)
             *right++ = 4 + i;
     }
@@ -80,11 +80,11 @@ static void make(unsigned names)
 static int right(const char *who, parse_fn *parse, const struct call *c)
 {
     static const char *const what[] = {"number", "steps", "stack", "listed"};
-    const uint8_t line[] = {1, 2};
+    const uint8_t input[] = {1, 2};
     uint64_t out[SIDUMZA_OUT];
     int good = 1;
     double start = now();
-    parse(table, SIDUMZA_TABLE, line, sizeof line, stack, STACK, list, c->list_len, c->limit, out);
+    parse(table, SIDUMZA_TABLE, input, sizeof input, stack, STACK, list, c->list_len, c->limit, out);
     double took = now() - start;
     printf("%-8s %20llu %12llu %6llu %12llu %12llu %8.2f %6.2f\n", who, (unsigned long long)c->limit,
            (unsigned long long)c->list_len, (unsigned long long)out[0], (unsigned long long)out[1],
@@ -104,13 +104,13 @@ static int right(const char *who, parse_fn *parse, const struct call *c)
 int main(int argc, char **argv)
 {
     char *end = "";
-    long names = argc > 1 ? strtol(argv[1], &end, 10) : 32;
+    long nonterminals = argc > 1 ? strtol(argv[1], &end, 10) : 32;
     int good = 1;
-    if (argc > 2 || *end || names < 1 || names > MOST_NAMES) {
-        fprintf(stderr, "long [NAMES], 1 to %d\n", MOST_NAMES);
+    if (argc > 2 || *end || nonterminals < 1 || nonterminals > MOST_NONTERMINALS) {
+        fprintf(stderr, "long [NONTERMINALS], 1 to %d\n", MOST_NONTERMINALS);
         return 2;
     }
-    const uint64_t n = (uint64_t)1 << names, all = n + 3, wide = ((uint64_t)1 << 32) + 3;
+    const uint64_t n = (uint64_t)1 << nonterminals, all = n + 3, wide = ((uint64_t)1 << 32) + 3;
     const struct call enough = {all, n, {SIDUMZA_ACCEPTED, all, 2, n}}, calls[] = {
         {n - 1, n, {SIDUMZA_STEP_LIMIT, n - 1, 2, n - 1}},
         {n, n, {SIDUMZA_STEP_LIMIT, n, 3, n - 1}},
@@ -121,10 +121,10 @@ int main(int argc, char **argv)
         {UINT64_MAX, n, {SIDUMZA_ACCEPTED, all, 2, n}},
         {UINT64_MAX, n - 1, {SIDUMZA_LIST_FULL, n + 1, 4, n - 1}},
     };
-    make(names);
+    make(nonterminals);
     list = long_list(n);
-    printf("%ld names: %llu steps\n%-8s %20s %12s %6s %12s %12s %8s %6s\n", names, (unsigned long long)all, "reader",
-           "limit", "list", "number", "steps", "listed", "seconds", "ns");
+    printf("%ld nonterminals: %llu steps\n", nonterminals, (unsigned long long)all);
+    printf("%-8s %20s %12s %6s %12s %12s %8s %6s\n", "reader", "limit", "list", "number", "steps", "listed", "seconds", "ns");
     for (size_t i = 0; i < sizeof calls / sizeof *calls; i++)
         good &= right("archive", sidumza_parse, &calls[i]);
     good &= right("tuned C", tuned_parse, &enough);

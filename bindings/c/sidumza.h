@@ -73,8 +73,8 @@ enum {
  * What to lend: there is at most a shift for each terminal, a place of the list for each reduction, and one acceptance.
  * - So input_len + list_len + 1 steps are always enough: with that step limit 32 never comes, and the list's length
  *   bounds the steps and the time of a call, whatever the table is. The sum always fits the step limit: lengths of
- *   areas in memory are below 2^63 on x86-64. UINT64_MAX, which is above it, is no limit. Who allows more steps than
- *   that gains nothing: a line of more than 2^32 steps needs a list of nearly as many places, 8.6 GB, else 34 comes.
+ *   areas in memory are below 2^63 on x86-64. Whoever allows more gains nothing: a line
+ *   of more than 2^32 steps needs a list of nearly as many places, 8.6 GB, or 34 comes. With UINT64_MAX 32 never comes.
  * - A stack of input_len + list_len + 1 places is always enough, and one of input_len + 1 where no production is empty
  *   (only a shift and an empty production's reduction push more than they pop).
  * - How many reductions an input takes is the grammar's: 34 tells that the list is too short. By JSON's table (examples/)
@@ -93,8 +93,8 @@ enum {
  *   with 0 steps is one of it.
  * - Declarations and types of function pointers that are written by hand, also in other languages, must be widened.
  * - Else no source has to be changed where an unsigned number of 32 bits is passed: it means what it meant, with the
- *   same end and the same counts. UINT32_MAX is still that number, and no longer the largest: who means no limit passes
- *   UINT64_MAX. What was negative or above UINT32_MAX was taken modulo 2^32, and is now taken modulo 2^64.
+ *   same end and the same counts. UINT32_MAX is still that number, and no longer the largest: whoever means no limit
+ *   passes UINT64_MAX. What was negative or above UINT32_MAX was taken modulo 2^32, and is now taken modulo 2^64.
  * - A place that keeps out[SIDUMZA_STEPS] in 32 bits must be widened, unless the limits stay below 2^32: no count passes
  *   its limit. (-Wconversion finds such places, -Wall and -Wextra do not.)
  *

@@ -93,15 +93,15 @@ mod archive {
 /// After an end the used places of `stack` and `list` hold states and productions; popped places
 /// of `stack` are 0, and places never used are unchanged.
 ///
-/// `step_limit` is how many steps may be made. `(input.len() + list.len() + 1) as u64` are always enough, and
-/// `u64::MAX` is no limit.
+/// `step_limit` is how many steps may be made. `(input.len() + list.len() + 1) as u64` are always enough; with
+/// `u64::MAX` 32 never comes.
 ///
 /// To callers of the function whose `step_limit` was a `u32`: a number of 32 bits is passed as `u64::from(..)` and
-/// means what it meant, with the same answer and counts; who means no limit passes `u64::MAX` in place of `u32::MAX`;
-/// [`Counts::steps`] is a `u64`, and a place that keeps it in 32 bits must be widened, unless the limits stay below
-/// 2^32: no count passes its limit. The compiler finds these places, but for `as` casts, types that are inferred
-/// (`"..".parse()`, `to_le_bytes()`) and declarations of `sidumza_parse` by hand. The archive must be the one that
-/// belongs to this crate: an older one takes the lower half of the limit alone.
+/// means what it meant, with the same answer and counts; whoever means no limit passes `u64::MAX` and not `u32::MAX`;
+/// [`Counts::steps`] is a `u64`, and a place that keeps it in 32 bits must be widened, or the count narrowed by hand
+/// where the limits stay below 2^32: no count passes its limit. The compiler finds these places, but for `as` casts,
+/// types that are inferred (`"..".parse()`, `to_le_bytes()`) and declarations of `sidumza_parse` by hand. The archive
+/// must be the one that belongs to this crate: an older one takes the lower half of the limit alone.
 #[cfg(feature = "parser")]
 pub fn parse(table: &[u16], input: &[u8], stack: &mut [u16], list: &mut [u16], step_limit: u64) -> Answer {
     let mut out = [0u64; 7];
