@@ -1,6 +1,6 @@
 /* Times two readers over the same long sentences of the same grammars, in turn in one process: turns [ROUNDS]
  * For each grammar the least of ROUNDS rounds (200), in ns a terminal, by each of them. turns.sh links them as first_parse
- * and second_parse; limits fit 32 bits, so that they may have 32 or 64 bits there. */
+ * and second_parse; the limit fits 32 bits, so either may take it in 32 or in 64 bits. */
 #include <stdint.h>
 #include <stdio.h>
 #include <stdlib.h>

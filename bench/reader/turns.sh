@@ -1,7 +1,7 @@
 #!/bin/sh
 # Times two archives of the parser over long inputs, in turn in one process: turns.sh FIRST SECOND
 # FIRST and SECOND are libparser_c.a, such as one from before a change and one from after it. Each is linked at six places
-# in memory, which alone makes 1 to 3 %; printed is the mean over them of the least of ROUNDS rounds (200), in ns a
+# in memory, since the place alone changes a time by 1 to 3 %; printed is the mean over them of the least of ROUNDS rounds (200), in ns a
 # terminal, and the ratio. Needs rustc, gcc, binutils and awk.
 set -e
 [ $# -eq 2 ] && [ -f "$1" ] && [ -f "$2" ] || { echo "turns.sh FIRST SECOND: two archives" >&2; exit 2; }

@@ -25,4 +25,5 @@ rt check parser >check.log 2>&1 || { grep -m 3 error check.log || true; echo "wi
 # a planted fault: contracts that name another width than the code has
 sed -i 's/^countBits = 32$/countBits = 33/' crates/parser/specs/Phases.antt
 ! rt check parser >fault.log 2>&1 || { echo "width: counts of 33 bits are proved to fit 32"; exit 1; }
+grep -q "it is not proved that the value fits the type that it is cast to" fault.log || { echo "width: the planted fault fails elsewhere"; exit 1; }
 echo "width: steps and reader proved with counts of 32 bits; 1 planted fault, 0 not found"

@@ -94,7 +94,7 @@ mod archive {
 /// of `stack` are 0, and places never used are unchanged.
 ///
 /// `step_limit` is how many steps may be made. `(input.len() + list.len() + 1) as u64` are always enough; with
-/// `u64::MAX` 32 never comes.
+/// `u64::MAX` [`Answer::StepLimit`] never comes.
 ///
 /// To callers of the function whose `step_limit` was a `u32`: a number of 32 bits is passed as `u64::from(..)` and
 /// means what it meant, with the same answer and counts; whoever means no limit passes `u64::MAX` and not `u32::MAX`;

@@ -1,7 +1,7 @@
--- A table of two states by which the machine reduces for ever: every number above 0 is the count of a reading, and a reader of w bits that is handed the
--- limit 2 ^ w gives another reading.
-use Prim.Native.Nat.{ℕ, zero, suc, _+_, _%_, _^_, _<_, _≤_}
-use native.Mathlib.Nat.{mod-self}
+-- A table of two states by which the machine reduces for ever: every number above 0 is the count of a reading, and a reader of w bits that is handed a limit
+-- of 2 ^ w or more gives another reading than the definition's.
+use Prim.Native.Nat.{ℕ, zero, suc, _+_, _^_, _<_, _≤_}
+use native.Mathlib.Nat.{mod-lt}
 use mathlib.Core.Path.{_≡_, refl, sym, ap, ap₂, subst, _∙_}
 use mathlib.Core.Logic.{_≢_}
 use mathlib.Core.List.{List, [], _∷_, _++_, append-assoc, append-nil, reverse}
@@ -15,10 +15,10 @@ use Rattle.machine.specs.Checks.{sizesOk, productionOk, terminalCellOk, 
 use Rattle.machine.specs.Report.{Reading, ended, numbersOf, stepsOf}
 use Rattle.machine.specs.LrMachine.{Config, conf, Step, Path, Ends, wrong}
 use Rattle.machine.specs.Faithful.{no-steps, counts, Faithful}
-use Rattle.machine.specs.ComputedRun.{topOf, actionOf, Outcome, start, reportOf, reading}
-use Rattle.machine.specs.Widths.{RunsIn, spent, stops, accepts, goes-on, ReadsIn, refuses, reads}
-use Rattle.machine.specs.Widths.{wrong as wrong-in}
+use Rattle.machine.specs.ComputedRun.{reading}
+use Rattle.machine.specs.Widths.{ReadsIn}
 use Rattle.machine.proofs.ReadsLaws.{only-reading}
+use Rattle.machine.proofs.Widths.{count-most, modulo}
 
 -- production 0 is empty, production 1 replaces the nonterminal by itself
 abbrev pub endless : List ℕ
@@ -86,30 +86,10 @@ pub every-count : (a : ℕ) (li : List ℕ) → 0 < a → a ≤ length li → nu
 every-count zero li z h = absurd (omega arith)
 every-count (suc n) li z h = count-suc n li h
 
--- ---- in w bits 2 ^ w is 0: no step is made
-
-first-action : (li : List ℕ) → actionOf endless [] (start (0 ∷ 0 ∷ []) li) ≡ 1024
-unfolding actionOf start topOf cellOf states productions width terminals nonterminals
-first-action li = refl
-
-none-left : (w : ℕ) (li : List ℕ) → start (0 ∷ 0 ∷ []) li .steps ≡ 2 ^ w % 2 ^ w
-unfolding start
-none-left w li = sym (mod-self (2 ^ w))
-
-narrow-run : (w : ℕ) (li : List ℕ) {o : Outcome} → RunsIn w endless [] (2 ^ w) (start (0 ∷ 0 ∷ []) li) o → o ≡ record { number = 32; final = start (0 ∷ 0 ∷ []) li }
-narrow-run w li (wrong-in z) = absurd (omega (arith, z, first-action li))
-narrow-run w li (spent n e) = refl
-narrow-run w li (stops n ne h) = absurd (ne (none-left w li))
-narrow-run w li (accepts n ne h) = absurd (ne (none-left w li))
-narrow-run w li (goes-on n ne h r) = absurd (ne (none-left w li))
-
-narrow-count : (w : ℕ) (li : List ℕ) (r : Reading) → ReadsIn w endless [] (0 ∷ 0 ∷ []) li (2 ^ w) r → stepsOf r ≡ 0
-unfolding reportOf start
-narrow-count w li r (refuses e ne) = absurd (ne (sym e ∙ taken))
-narrow-count w li r (reads e d) = ap (λ (o : Outcome). stepsOf (record { report = reportOf endless o; stack = []; list = [] })) (narrow-run w li d)
-
--- so the limits of w bits are all for which `in-width` of Widths.antt holds
-pub too-narrow : (w : ℕ) (li : List ℕ) → 2 ^ w ≤ length li → (r : Reading) → ReadsIn w endless [] (0 ∷ 0 ∷ []) li (2 ^ w) r → r ≢ reading endless [] (0 ∷ 0 ∷ []) li (2 ^ w)
-too-narrow w li h r d e =
-    let all : stepsOf (reading endless [] (0 ∷ 0 ∷ []) li (2 ^ w)) ≡ 2 ^ w = ap (λ (n : List ℕ). getD n 1 0) (every-count (2 ^ w) li (pow-pos w) h) in
-    omega (arith, sym (narrow-count w li r d) ∙ ap stepsOf e ∙ all, pow-pos w)
+-- so w bits are too few for every limit from 2 ^ w on
+pub too-narrow : (w a : ℕ) (li : List ℕ) → 2 ^ w ≤ a → a ≤ length li → (r : Reading) → ReadsIn w endless [] (0 ∷ 0 ∷ []) li a r
+    → r ≢ reading endless [] (0 ∷ 0 ∷ []) li a
+too-narrow w a li g h r d e =
+    let all : stepsOf (reading endless [] (0 ∷ 0 ∷ []) li a) ≡ a = ap (λ (n : List ℕ). getD n 1 0) (every-count a li (omega (arith, pow-pos w)) h) in
+    let few = count-most (modulo w endless [] (0 ∷ 0 ∷ []) li a r .0 d) in
+    omega (arith, sym (ap stepsOf e ∙ all), mod-lt a (pow-pos w))

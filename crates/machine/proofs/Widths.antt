@@ -1,4 +1,4 @@
--- A reader whose limit and count have w bits gives, under each limit of w bits, the reading of the definition and no other; and no count passes its limit.
+-- A reader whose limit and count have w bits gives the reading of the definition under w bits of its limit, and no other; and no count passes its limit.
 use Prim.Native.Nat.{ℕ, zero, suc, _+_, _-_, _%_, _^_, _<_, _≤_}
 use mathlib.Core.Path.{_≡_, refl, sym, ap, subst, _∙_}
 use mathlib.Core.Logic.{_≢_, _↔_}
@@ -8,7 +8,8 @@ use lib.ListN.{length}
 use lib.Dec.{ltb, eqb}
 use borrow.Author.Tests.{ne-eqb}
 use native.Mathlib.Omega.{arith}
-use native.Mathlib.Nat.{mod-eq-of-lt}
+use native.Mathlib.Nat.{mod-lt, mod-eq-of-lt}
+use lib.Pow.{pow-pos}
 use native.Mathlib.Decide.{ℕ-discrete}
 use Rattle.tables.specs.Layout.{leftOf, lengthOf, accept, cellOf}
 use Rattle.machine.specs.Checks.{refusalOf}
@@ -70,24 +71,22 @@ step-counts t a m =
     ends)
     ends))
 
-module _ (w : ℕ) (t l : List ℕ) (a : ℕ) (f : a < 2 ^ w) where
-  limit-is : a % 2 ^ w ≡ a
-  limit-is = mod-eq-of-lt f
+-- a is the limit as it is handed over
+module _ (w : ℕ) (t l : List ℕ) (a : ℕ) where
+  -- while the count is within w bits of the limit, w bits hold it
+  same-count : (m : Machine) → m .steps ≤ a % 2 ^ w → counting w m ≡ m
+  same-count m h = let e : m .steps % 2 ^ w ≡ m .steps = mod-eq-of-lt (omega (arith, mod-lt a (pow-pos w))) in rw e refl
 
-  -- while the count is within the limit, w bits hold it
-  same-count : (m : Machine) → m .steps ≤ a → counting w m ≡ m
-  same-count m h = let e : m .steps % 2 ^ w ≡ m .steps = mod-eq-of-lt (omega (arith, f)) in rw e refl
-
-  not-yet : {n : ℕ} (k : ℕ) → n + suc k ≡ a → n ≢ a % 2 ^ w
-  not-yet k e z = omega (arith, limit-is)
+  not-yet : {n : ℕ} (k : ℕ) → n + suc k ≡ a % 2 ^ w → n ≢ a % 2 ^ w
+  not-yet k e z = omega arith
 
   -- the step that is made where one is left, and what comes of it
-  module _ (k : ℕ) (m : Machine) (e : m .steps + suc k ≡ a) (n : actionOf t l m ≢ 0) where
+  module _ (k : ℕ) (m : Machine) (e : m .steps + suc k ≡ a % 2 ^ w) (n : actionOf t l m ≢ 0) where
     more : run t l (suc k) m ≡ after (run t l k) (movedBy t (actionOf t l m) m)
     unfolding run
     more = rw (ne-eqb (actionOf t l m) 0 n) refl
 
-    goes : ((m′ : Machine) → m′ .steps + k ≡ a → RunsIn w t l a m′ (run t l k m′)) → (x : Next) → movedBy t (actionOf t l m) m ≡ x → Counts (m .steps) x
+    goes : ((m′ : Machine) → m′ .steps + k ≡ a % 2 ^ w → RunsIn w t l a m′ (run t l k m′)) → (x : Next) → movedBy t (actionOf t l m) m ≡ x → Counts (m .steps) x
         → RunsIn w t l a m (after (run t l k) x)
     unfolding after
     goes ih (ended i m′) h c = stops n (not-yet k e) h
@@ -96,15 +95,15 @@ module _ (w : ℕ) (t l : List ℕ) (a : ℕ) (f : a < 2 ^ w) where
     goes ih (accepted m′) h (accepted-at s) =
         subst (λ (z : Machine). RunsIn w t l a m (record { number = 0; final = z })) (same-count m′ (omega arith)) (accepts n (not-yet k e) h)
 
-  runs : (k : ℕ) (m : Machine) → m .steps + k ≡ a → RunsIn w t l a m (run t l k m)
+  runs : (k : ℕ) (m : Machine) → m .steps + k ≡ a % 2 ^ w → RunsIn w t l a m (run t l k m)
   runs zero m e = go (ℕ-discrete (actionOf t l m) 0)
     where
       go : Dec (actionOf t l m ≡ 0) → RunsIn w t l a m (run t l zero m)
       go (yes z) = rw (run-wrong t l m zero z) (wrong z)
-      go (no n) = rw (run-none t l m zero refl n) (spent n (omega (arith, limit-is)))
+      go (no n) = rw (run-none t l m zero refl n) (spent n (omega arith))
   runs (suc k) m e = go (λ m′ h. runs k m′ h) (ℕ-discrete (actionOf t l m) 0)
     where
-      go : ((m′ : Machine) → m′ .steps + k ≡ a → RunsIn w t l a m′ (run t l k m′)) → Dec (actionOf t l m ≡ 0) → RunsIn w t l a m (run t l (suc k) m)
+      go : ((m′ : Machine) → m′ .steps + k ≡ a % 2 ^ w → RunsIn w t l a m′ (run t l k m′)) → Dec (actionOf t l m ≡ 0) → RunsIn w t l a m (run t l (suc k) m)
       go ih (yes z) = rw (run-wrong t l m (suc k) z) (wrong z)
       go ih (no n) = rw (more k m e n) (goes k m e n ih (movedBy t (actionOf t l m) m) refl (step-counts t (actionOf t l m) m))
 
@@ -121,40 +120,43 @@ module _ (w : ℕ) (t l : List ℕ) (a : ℕ) (f : a < 2 ^ w) where
         go : Counts (m .steps) (accepted m′) → m′ .steps ≡ m .steps + 1
         go (accepted-at s) = s
 
-  only-run : {m : Machine} {o : Outcome} → RunsIn w t l a m o → (k : ℕ) → m .steps + k ≡ a → o ≡ run t l k m
+  only-run : {m : Machine} {o : Outcome} → RunsIn w t l a m o → (k : ℕ) → m .steps + k ≡ a % 2 ^ w → o ≡ run t l k m
   unfolding after
   only-run {m} (wrong z) k e = sym (run-wrong t l m k z)
-  only-run {m} (spent n s) k e = sym (run-none t l m k (omega (arith, limit-is)) n)
-  only-run (stops n ne h) zero e = absurd (ne (omega (arith, limit-is)))
+  only-run {m} (spent n s) k e = sym (run-none t l m k (omega arith) n)
+  only-run (stops n ne h) zero e = absurd (ne (omega arith))
   only-run {m} (stops n ne h) (suc k) e = sym (more k m e n ∙ ap (after (run t l k)) h)
-  only-run (accepts n ne h) zero e = absurd (ne (omega (arith, limit-is)))
+  only-run (accepts n ne h) zero e = absurd (ne (omega arith))
   only-run {m} (accepts {m′ = m′} n ne h) (suc k) e =
       let s = accepted-counts m m′ h in
       ap (λ (z : Machine). record { number = 0; final = z }) (same-count m′ (omega arith)) ∙ sym (more k m e n ∙ ap (after (run t l k)) h)
-  only-run (goes-on n ne h r) zero e = absurd (ne (omega (arith, limit-is)))
+  only-run (goes-on n ne h r) zero e = absurd (ne (omega arith))
   only-run {m} (goes-on {m′ = m′} n ne h r) (suc k) e =
       let s = moved-counts m m′ h in
       let c = same-count m′ (omega arith) in
       let z = ap (λ (z : Machine). z .steps) c in
       only-run r k (omega (arith, z)) ∙ ap (run t l k) c ∙ sym (more k m e n ∙ ap (after (run t l k)) h)
 
--- ---- so a reading in w bits is the reading
+-- ---- so a reading in w bits is the reading under w bits of the limit
 
-module _ (w : ℕ) (t l st li : List ℕ) (a : ℕ) (f : a < 2 ^ w) where
-  pub some-in : ReadsIn w t l st li a (reading t l st li a)
+module _ (w : ℕ) (t l st li : List ℕ) (a : ℕ) where
+  some-in : ReadsIn w t l st li a (reading t l st li (a % 2 ^ w))
   some-in = go (ℕ-discrete (refusalOf t l (length st)) 0)
     where
-      go : Dec (refusalOf t l (length st) ≡ 0) → ReadsIn w t l st li a (reading t l st li a)
-      go (yes e) = rw (unrefused t l st li a e (run t l a (start st li)) refl) (widths.reads e (runs w t l a f a (start st li) (start-none st li a)))
-      go (no n) = rw (refused-is t l st li a (refusalOf t l (length st)) refl n) (widths.refuses refl n)
+      go : Dec (refusalOf t l (length st) ≡ 0) → ReadsIn w t l st li a (reading t l st li (a % 2 ^ w))
+      go (yes e) = rw (unrefused t l st li (a % 2 ^ w) e (run t l (a % 2 ^ w) (start st li)) refl) (widths.reads e (runs w t l a (a % 2 ^ w) (start st li) (start-none st li (a % 2 ^ w))))
+      go (no n) = rw (refused-is t l st li (a % 2 ^ w) (refusalOf t l (length st)) refl n) (widths.refuses refl n)
 
-  pub only-in : (r : Reading) → ReadsIn w t l st li a r → r ≡ reading t l st li a
-  only-in r (widths.refuses {n} e ne) = sym (refused-is t l st li a n e ne)
-  only-in r (widths.reads {o} e d) = sym (unrefused t l st li a e o (sym (only-run w t l a f d a (start-none st li a))))
+  pub only-in : (r : Reading) → ReadsIn w t l st li a r → r ≡ reading t l st li (a % 2 ^ w)
+  only-in r (widths.refuses {n} e ne) = sym (refused-is t l st li (a % 2 ^ w) n e ne)
+  only-in r (widths.reads {o} e d) = sym (unrefused t l st li (a % 2 ^ w) e o (sym (only-run w t l a d (a % 2 ^ w) (start-none st li (a % 2 ^ w)))))
 
   -- "One proof serves either width": this one is for every w
-  pub in-width : (r : Reading) → ReadsIn w t l st li a r ↔ Reads t l st li a r
-  in-width r = (λ d. reads-exactly t l st li a r .1 (only-in r d), λ d. rw (reads-exactly t l st li a r .0 d) some-in)
+  pub modulo : (r : Reading) → ReadsIn w t l st li a r ↔ Reads t l st li (a % 2 ^ w) r
+  modulo r = (λ d. reads-exactly t l st li (a % 2 ^ w) r .1 (only-in r d), λ d. rw (reads-exactly t l st li (a % 2 ^ w) r .0 d) some-in)
+
+  pub in-width : a < 2 ^ w → (r : Reading) → ReadsIn w t l st li a r ↔ Reads t l st li a r
+  in-width f r = rw (mod-eq-of-lt f) at (modulo r)
 
 pub old-limits : OldLimits
 old-limits t l st li a f r =

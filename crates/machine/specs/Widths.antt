@@ -1,6 +1,6 @@
 -- The reader with a step limit and a count of w bits: "The allowance and the move count become 64 bits wide. A reading that ended under an old allowance
--- has the same end and count under that number now. One proof serves either width." `in-width` of proofs/Widths.antt proves, for every w, that under a limit
--- of w bits this is the reading of Reads.antt, which is over numbers of any size.
+-- has the same end and count under that number now. One proof serves either width." `modulo` of proofs/Widths.antt proves, for every w, that this is the reading
+-- of Reads.antt, which is over numbers of any size, under w bits of the limit.
 use Prim.Native.Nat.{ℕ, _%_, _^_, _<_}
 use mathlib.Core.Path.{_≡_}
 use mathlib.Core.Logic.{_≢_, _↔_}
@@ -10,7 +10,7 @@ use Rattle.machine.specs.Checks.{refusalOf}
 use Rattle.machine.specs.Report.{refused, Reading}
 use Rattle.machine.specs.ComputedRun.{Machine, ended, moved, accepted, actionOf, movedBy, Outcome, start, reportOf}
 
--- a count is kept in w bits: one more than the largest is 0
+-- a count is kept in w bits: one more than the largest is 0 (no reading comes to that, since it stops at the limit)
 abbrev pub counting : ℕ → Machine → Machine
 counting w m = record { stack = m .stack; list = m .list; depth = m .depth; listed = m .listed; position = m .position; steps = m .steps % 2 ^ w }
 

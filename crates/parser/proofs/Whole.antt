@@ -6,9 +6,11 @@ use Prim.Native.Nat.{ℕ, _^_, _<_}
 use native.Mathlib.Omega.{arith}
 use lib.ListN.{length, getD}
 use Rattle.machine.specs.Checks.{refusalOf}
+use Rattle.machine.specs.Report.{Reading}
 use Rattle.machine.specs.ComputedRun.{run, start, reading}
+use Rattle.machine.specs.Widths.{ReadsIn}
 use Rattle.machine.proofs.ReadsLaws.{unrefused, refused-is, reads-some}
-use Rattle.machine.proofs.Widths.{count-in}
+use Rattle.machine.proofs.Widths.{count-in, in-width}
 use Rattle.table_checks.specs.Verdict.{refusalNumber}
 use Rattle.table_checks.specs.declared.Refusal.{Refusal}
 use Rattle.table_checks.specs.declared.Refusal.the-variants.{TableShort, SizesWrong, ProductionWrong, CellWrong, EntryWrong, InputLong, TerminalWrong, NoStack}
@@ -34,6 +36,9 @@ module _ (t l st li : List ℕ) (a : ℕ) where
   pub refuses : (e : Refusal) → refusalNumber e ≡ refusalOf t l (length st) → ReadsAs (reading t l st li a) (answer.Refused e) st li
   refuses e h = rw (refused-is t l st li a (refusalNumber e) (sym h) (not-zero e)) (record { answer = refl; stack = refl; list = refl })
 
-  -- the count that is answered has no more bits than the limit
-  pub answered-in : (w : ℕ) {r : Answer} {st′ li′ : List ℕ} → a < 2 ^ w → ReadsAs (reading t l st li a) r st′ li′ → getD (numbers r) 1 0 < 2 ^ w
-  answered-in w f h = rw (h .answer) (count-in w f (reads-some t l st li a))
+  -- under a limit of w bits a reading in w bits is answered, with a count of w bits
+  pub answered-in : (w : ℕ) {r : Answer} {st′ li′ : List ℕ} → a < 2 ^ w → ReadsAs (reading t l st li a) r st′ li′
+      → (g : Reading) × ReadsIn w t l st li a g × ReadsAs g r st′ li′ × (getD (numbers r) 1 0 < 2 ^ w)
+  answered-in w f h =
+      let d = reads-some t l st li a in
+      (reading t l st li a, in-width w t l st li a f (reading t l st li a) .1 d, h, rw (h .answer) (count-in w f d))

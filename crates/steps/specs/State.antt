@@ -65,7 +65,7 @@ pub record Reducible (t cs st li : List ℕ) (z : Shape) (s : State) (r n under 
   pub free : s .listed < length li
   pub more : 0 < s .left
 
--- the cell a asks for a step, a shift only before the end of an input, and a step is left
+-- the cell a asks for a step, a shift only before position 65,535, the end of the longest input, and a step is left
 pub record Steppable (t cs st li : List ℕ) (z : Shape) (s : State) (a : ℕ) : Type 0 where
   pub held : Held t cs st li z s
   pub fits : a < 2 ^ 16
