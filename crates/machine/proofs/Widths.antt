@@ -16,12 +16,12 @@ use Rattle.machine.specs.Checks.{refusalOf}
 use Rattle.machine.specs.Report.{Reading, stepsOf}
 use Rattle.machine.specs.Faithful.{Allowed, Stops, accepted-here, wrong-here, no-steps, list-full, broken-here, stack-full, Faithful}
 use Rattle.machine.specs.Reads.{Reads, refuses, reads}
-use Rattle.machine.specs.ComputedRun.{Machine, Next, ended, moved, accepted, topOf, actionOf, movedBy, shifted, reduced, reducedTo, Outcome, after, run, start, reportOf, reading}
+use Rattle.machine.specs.ComputedRun.{Machine, Next, ended, moved, accepted, topOf, actionOf, movedBy, shifted, reduced, reducedTo, Outcome, after, run, start, reading}
 use Rattle.machine.specs.Widths as widths
 use Rattle.machine.specs.Widths.{counting, RunsIn, wrong, spent, stops, accepts, goes-on, ReadsIn, OldLimits}
 use Rattle.machine.proofs.LrMachineLaws.{Config, own-steps}
 use Rattle.machine.proofs.ReportLaws.{count-is}
-use Rattle.machine.proofs.RunLaws.{run-wrong, run-none, run-more}
+use Rattle.machine.proofs.RunLaws.{run-wrong, run-none}
 use Rattle.machine.proofs.ReadsLaws.{unrefused, refused-is, reads-some, reads-exactly}
 
 -- ---- no count passes its limit
@@ -50,26 +50,26 @@ unfolding start
 start-none st li a = omega arith
 
 -- what a step makes has one step more
-data Counts (n : ℕ) : Next → Type 0 where
-  ends : {i : ℕ} {m : Machine} → Counts n (ended i m)
-  moves : {m : Machine} → m .steps ≡ n + 1 → Counts n (moved m)
-  accepted-at : {m : Machine} → m .steps ≡ n + 1 → Counts n (accepted m)
+abbrev Counts : ℕ → Next → Type 0
+Counts n (ended i m) = Unit {0}
+Counts n (moved m) = m .steps ≡ n + 1
+Counts n (accepted m) = m .steps ≡ n + 1
 
-either : (n : ℕ) (b : Bool) {x y : Next} → Counts n x → Counts n y → Counts n (cond b x y)
-either n true f g = f
-either n false f g = g
+either : (n : ℕ) (b : Bool) (x y : Next) → Counts n x → Counts n y → Counts n (cond b x y)
+either n true x y f g = f
+either n false x y f g = g
 
 step-counts : (t : List ℕ) (a : ℕ) (m : Machine) → Counts (m .steps) (movedBy t a m)
 unfolding movedBy shifted reduced reducedTo
 step-counts t a m =
-    either (m .steps) (ltb a 1024) (either (m .steps) (ltb (m .depth) (length (m .stack))) (moves refl) ends)
-    (either (m .steps) (eqb a accept) (accepted-at refl)
-    (either (m .steps) (ltb (m .listed) (length (m .list)))
-    (either (m .steps) (ltb (lengthOf t (a - 1024)) (m .depth))
-    (either (m .steps) (eqb (cellOf t (topOf (m .stack) (m .depth - lengthOf t (a - 1024))) (leftOf t (a - 1024))) 0) ends
-    (either (m .steps) (ltb (m .depth - lengthOf t (a - 1024)) (length (m .stack))) (moves refl) ends))
-    ends)
-    ends))
+    either (m .steps) (ltb a 1024) _ _ (either (m .steps) (ltb (m .depth) (length (m .stack))) _ _ refl tt)
+    (either (m .steps) (eqb a accept) _ _ refl
+    (either (m .steps) (ltb (m .listed) (length (m .list))) _ _
+    (either (m .steps) (ltb (lengthOf t (a - 1024)) (m .depth)) _ _
+    (either (m .steps) (eqb (cellOf t (topOf (m .stack) (m .depth - lengthOf t (a - 1024))) (leftOf t (a - 1024))) 0) _ _ tt
+    (either (m .steps) (ltb (m .depth - lengthOf t (a - 1024)) (length (m .stack))) _ _ refl tt))
+    tt)
+    tt))
 
 -- a is the limit as it is handed over
 module _ (w : ℕ) (t l : List ℕ) (a : ℕ) where
@@ -90,9 +90,9 @@ module _ (w : ℕ) (t l : List ℕ) (a : ℕ) where
         → RunsIn w t l a m (after (run t l k) x)
     unfolding after
     goes ih (ended i m′) h c = stops n (not-yet k e) h
-    goes ih (moved m′) h (moves s) =
+    goes ih (moved m′) h s =
         goes-on n (not-yet k e) h (subst (λ (z : Machine). RunsIn w t l a z (run t l k m′)) (sym (same-count m′ (omega arith))) (ih m′ (omega arith)))
-    goes ih (accepted m′) h (accepted-at s) =
+    goes ih (accepted m′) h s =
         subst (λ (z : Machine). RunsIn w t l a m (record { number = 0; final = z })) (same-count m′ (omega arith)) (accepts n (not-yet k e) h)
 
   runs : (k : ℕ) (m : Machine) → m .steps + k ≡ a % 2 ^ w → RunsIn w t l a m (run t l k m)
@@ -107,18 +107,8 @@ module _ (w : ℕ) (t l : List ℕ) (a : ℕ) where
       go ih (yes z) = rw (run-wrong t l m (suc k) z) (wrong z)
       go ih (no n) = rw (more k m e n) (goes k m e n ih (movedBy t (actionOf t l m) m) refl (step-counts t (actionOf t l m) m))
 
-  module _ (m m′ : Machine) where
-    moved-counts : movedBy t (actionOf t l m) m ≡ moved m′ → m′ .steps ≡ m .steps + 1
-    moved-counts h = go (subst (Counts (m .steps)) h (step-counts t (actionOf t l m) m))
-      where
-        go : Counts (m .steps) (moved m′) → m′ .steps ≡ m .steps + 1
-        go (moves s) = s
-
-    accepted-counts : movedBy t (actionOf t l m) m ≡ accepted m′ → m′ .steps ≡ m .steps + 1
-    accepted-counts h = go (subst (Counts (m .steps)) h (step-counts t (actionOf t l m) m))
-      where
-        go : Counts (m .steps) (accepted m′) → m′ .steps ≡ m .steps + 1
-        go (accepted-at s) = s
+  made : (m : Machine) (x : Next) → movedBy t (actionOf t l m) m ≡ x → Counts (m .steps) x
+  made m x h = subst (Counts (m .steps)) h (step-counts t (actionOf t l m) m)
 
   only-run : {m : Machine} {o : Outcome} → RunsIn w t l a m o → (k : ℕ) → m .steps + k ≡ a % 2 ^ w → o ≡ run t l k m
   unfolding after
@@ -128,11 +118,11 @@ module _ (w : ℕ) (t l : List ℕ) (a : ℕ) where
   only-run {m} (stops n ne h) (suc k) e = sym (more k m e n ∙ ap (after (run t l k)) h)
   only-run (accepts n ne h) zero e = absurd (ne (omega arith))
   only-run {m} (accepts {m′ = m′} n ne h) (suc k) e =
-      let s = accepted-counts m m′ h in
+      let s : m′ .steps ≡ m .steps + 1 = made m (accepted m′) h in
       ap (λ (z : Machine). record { number = 0; final = z }) (same-count m′ (omega arith)) ∙ sym (more k m e n ∙ ap (after (run t l k)) h)
   only-run (goes-on n ne h r) zero e = absurd (ne (omega arith))
   only-run {m} (goes-on {m′ = m′} n ne h r) (suc k) e =
-      let s = moved-counts m m′ h in
+      let s : m′ .steps ≡ m .steps + 1 = made m (moved m′) h in
       let c = same-count m′ (omega arith) in
       let z = ap (λ (z : Machine). z .steps) c in
       only-run r k (omega (arith, z)) ∙ ap (run t l k) c ∙ sym (more k m e n ∙ ap (after (run t l k)) h)
