@@ -62,12 +62,13 @@ fn shift(stack: &mut [u16], s: State, a: usize) -> Next
 {
     let at = s.depth;
     if at < stack.len() {
+        let left = s.left - 1;
         stack[at] = a as u16;
         Next::Moved(State {
             depth: at + 1,
             listed: s.listed,
             position: s.position + 1,
-            left: s.left - 1,
+            left,
             top: a,
         })
     } else {
