@@ -5,6 +5,10 @@
  * TABLE is a table as maketable prints it. A line is terminals in decimal; an empty line is the empty
  * input. Each line gets one line of answer. That of a wrong line names the symbols that the terminals before
  * the place were read as: those under which the states on the stack were entered.
+ *
+ * STEP_LIMIT: up to 18446744073709551615; 1000000 where none is given. STACK and LIST, in places: up to 16777216 each;
+ * 65536 and 1000000 where none is given. So no line makes more than 16842752 steps here: each but the acceptance passes
+ * a terminal or takes a place of LIST.
  */
 #include <ctype.h>
 #include <errno.h>
@@ -51,15 +55,16 @@ static void *room(void *old, size_t n)
 }
 
 /* Reads a decimal number up to max at *s and steps over it: 1 if there is one. */
-static int number(char **s, unsigned long max, unsigned long *v)
+static int number(char **s, uint64_t max, uint64_t *v)
 {
     char *end;
     if (!isdigit((unsigned char)**s))
         return 0;
     errno = 0;
-    *v = strtoul(*s, &end, 10);
-    if (errno || *v > max || (*end && !blank(*end)))
+    unsigned long long value = strtoull(*s, &end, 10);
+    if (errno || value > max || (*end && !blank(*end)))
         return 0;
+    *v = value;
     *s = end;
     return 1;
 }
@@ -121,16 +126,23 @@ static void show(const uint64_t *out, const uint16_t *table, size_t table_len, c
     putchar('\n');
 }
 
-int main(int argc, char **argv)
+/* The step limit and the lengths of stack and list, where arguments give them. */
+static void arguments(int argc, char **argv, uint64_t limits[3])
 {
-    unsigned long limits[3] = {1000000, 65536, 1000000}, most[3] = {4294967295ul, 1ul << 24, 1ul << 24};
+    static const uint64_t most[3] = {UINT64_MAX, 1 << 24, 1 << 24};
     if (argc < 2 || argc > 5)
         fail("usage: page TABLE [STEP_LIMIT [STACK [LIST]]]");
     for (int i = 2; i < argc; i++) {
         char *s = argv[i];
         if (!number(&s, most[i - 2], &limits[i - 2]) || *s)
-            fail("%s: not a number up to %lu", argv[i], most[i - 2]);
+            fail("%s: not a number up to %llu", argv[i], (unsigned long long)most[i - 2]);
     }
+}
+
+int main(int argc, char **argv)
+{
+    uint64_t limits[3] = {1000000, 65536, 1000000};
+    arguments(argc, argv, limits);
     static uint16_t table[SIDUMZA_TABLE_MOST];
     size_t table_len = load(argv[1], table, SIDUMZA_TABLE_MOST);
     uint16_t *stack = room(NULL, limits[1] * sizeof *stack), *list = room(NULL, limits[2] * sizeof *list);
@@ -145,7 +157,7 @@ int main(int argc, char **argv)
     ssize_t got;
     for (unsigned long k = 1; (got = getline(&line, &size, stdin)) >= 0; k++) {
         size_t n = 0;
-        unsigned long v;
+        uint64_t v;
         char *s = line;
         input = room(input, got);
         for (blanks(&s); number(&s, 255, &v); blanks(&s))

@@ -5,6 +5,10 @@
 // TABLE is a table as maketable prints it. A line is terminals in decimal; an empty line is the empty
 // input. Each line gets one line of answer. That of a wrong line names the symbols that the terminals before
 // the place were read as: those under which the states on the stack were entered.
+//
+// STEP_LIMIT: up to 18446744073709551615; 1000000 where none is given. STACK and LIST, in places: up to 16777216 each;
+// 65536 and 1000000 where none is given. So no line makes more than 16842752 steps here: each but the acceptance passes
+// a terminal or takes a place of LIST.
 use sidumza::{entered, parse, read_table, terminals, Answer, Refusal};
 use std::io::{BufRead, Write};
 
@@ -45,7 +49,7 @@ fn main() {
         fail("usage: page TABLE [STEP_LIMIT [STACK [LIST]]]".to_string());
     }
     let mut limits = [1000000, 65536, 1000000];
-    for ((word, limit), max) in args[2..].iter().zip(&mut limits).zip([u32::MAX as u64, 1 << 24, 1 << 24]) {
+    for ((word, limit), max) in args[2..].iter().zip(&mut limits).zip([u64::MAX, 1 << 24, 1 << 24]) {
         *limit = number(word, max).unwrap_or_else(|| fail(format!("{word}: not a number up to {max}")));
     }
     let path = &args[1];
@@ -59,14 +63,17 @@ fn main() {
     }
     let mut out = std::io::BufWriter::new(std::io::stdout().lock());
     for (k, line) in std::io::stdin().lock().split(b'\n').enumerate() {
-        let line = line.unwrap_or_else(|e| fail(e.to_string()));
+        let line = line.unwrap_or_else(|e| {
+            let _ = out.flush();
+            fail(e.to_string())
+        });
         let line = String::from_utf8_lossy(&line);
         let input: Option<Vec<u8>> = line.split_ascii_whitespace().map(|w| Some(number(w, 255)? as u8)).collect();
         let Some(input) = input else {
             let _ = out.flush();
             fail(format!("line {}: not a line of terminals", k + 1))
         };
-        let answer = parse(&table, &input, &mut stack, &mut list, limits[0] as u32);
+        let answer = parse(&table, &input, &mut stack, &mut list, limits[0]);
         writeln!(out, "{}", show(answer, &table, &stack, &list)).unwrap_or_else(|e| fail(e.to_string()));
     }
     out.flush().unwrap_or_else(|e| fail(e.to_string()));

@@ -47,6 +47,14 @@ says "2 1" "stopped 32: steps 4, stack 2, listed 2" "$here/a.table" 4
 says "2 1" "stopped 33: steps 2, stack 2, listed 1" "$here/a.table" 100 2
 says "2 1" "stopped 34: steps 3, stack 3, listed 1" "$here/a.table" 100 10 1
 says "2 1" "refused 27: no stack area" "$here/a.table" 100 0
+# limits of 64 bits: no part of such a number is the limit
+for limit in 4294967295 4294967296 4294967297 4294967300 9223372036854775808 18446744073709551615 \
+    0018446744073709551615; do
+    says "2 1" "accepted: steps 5, productions 1 0" "$here/a.table" $limit
+    says "2 2" "wrong at 1: steps 1, after 2, expected 0 1" "$here/a.table" $limit
+    says "2 1" "stopped 33: steps 2, stack 2, listed 1" "$here/a.table" $limit 2
+    says "2 1" "stopped 34: steps 3, stack 3, listed 1" "$here/a.table" $limit 10 1
+done
 says "" "accepted: steps 2, productions 0" "$here/empty.table"
 says "" "wrong at 0: steps 0, expected 2" "$here/a.table" 0 1 0
 printf 'table 1 1 1 1\nleft 1\nlength 1\nentered 0\nrow 0 : 1024 0\n' >"$tmp/foreign"
@@ -60,7 +68,45 @@ bad "" "$here"
 bad "" /dev/null
 bad "" "$here/a.lines"
 bad "" "$here/a.table" many
-bad "" "$here/a.table" 4294967296
+for limit in 18446744073709551616 18446744073709551620 36893488147419103232 99999999999999999999999 4294967296x -1 +5 \
+    0x5 ""; do
+    bad "" "$here/a.table" "$limit"
+    [ "$(cat "$tmp/err")" = "page: $limit: not a number up to 18446744073709551615" ] ||
+        { echo "examples: $page: limit '$limit': message '$(cat "$tmp/err")'"; failed=1; }
+done
+# broken LINES EXPECTED: standard input fails behind these lines; what was answered is printed, with status 2
+broken() {
+    python3 - "$page" "$here/a.table" "$1" >"$tmp/out" 2>"$tmp/err" <<'END'
+import socket, struct, subprocess, sys
+page, table, lines = sys.argv[1:]
+server = socket.create_server(("127.0.0.1", 0))
+client = socket.create_connection(server.getsockname())
+taken = server.accept()[0]
+program = subprocess.Popen([page, table], stdin=taken.fileno())
+client.sendall(lines.encode())
+# all is read before the connection is reset
+try:
+    while program.poll() is None and taken.recv(1, socket.MSG_PEEK | socket.MSG_DONTWAIT):
+        pass
+except BlockingIOError:
+    pass
+client.setsockopt(socket.SOL_SOCKET, socket.SO_LINGER, struct.pack("ii", 1, 0))
+client.close()
+sys.exit(program.wait(20))
+END
+    status=$?
+    printf '%s\n' "$2" >"$tmp/expected"
+    same "input that breaks" "$tmp/expected"
+    if [ $status -ne 2 ] || ! grep -q '^page: ' "$tmp/err"; then
+        echo "examples: $page: input that breaks: exit $status, message '$(cat "$tmp/err")'"
+        failed=1
+    fi
+}
+
+broken "2 1
+2 2
+" "accepted: steps 5, productions 1 0
+wrong at 1: steps 1, after 2, expected 0 1"
 bad "2 x\n" "$here/a.table"
 bad "2 256\n" "$here/a.table"
 bad "2 -1\n" "$here/a.table"

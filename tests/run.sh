@@ -8,8 +8,12 @@ rt staticlib generator_c
 rt check maketable
 command -v bison >/dev/null || { apt-get install -y bison || { apt-get update && apt-get install -y bison; }; } >/dev/null 2>&1 ||
     echo "Bison cannot be installed here"
+# the reader's proofs serve limits and counts of 32 bits, too
+sh tests/width/run.sh
 sh tests/reader/run.sh
 MAKETABLE=target/bin/maketable sh tests/generator/run.sh
+# the benchmark of long counts, with 4099 steps in place of 2^32 + 3
+NONTERMINALS=12 sh bench/reader/long.sh
 # the scripts and the tool beside the proofs; the first call builds it
 ./explain <examples/a.card >/dev/null
 python3 tests/scripts/scripts.py target/bin/maketable target/cargo/release/explain

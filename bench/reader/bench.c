@@ -50,7 +50,7 @@ static size_t run(int who, const struct grammar *g)
     if (who == BISON) {
         out[0] = g->bison(g->input, g->input_len, list[who], &listed);
     } else {
-        readers[who](g->table, g->table_len, g->input, g->input_len, stack, STACK, list[who], LIST, UINT32_MAX, out);
+        readers[who](g->table, g->table_len, g->input, g->input_len, stack, STACK, list[who], LIST, UINT64_MAX, out);
         listed = out[3];
     }
     if (out[0] != 0) {

@@ -19,7 +19,7 @@ static double now(void)
     return s.tv_sec * 1e9 + s.tv_nsec;
 }
 
-static double call(const uint16_t *t, size_t len, const uint8_t *input, size_t input_len, uint32_t limit)
+static double call(const uint16_t *t, size_t len, const uint8_t *input, size_t input_len, uint64_t limit)
 {
     double least = 1e18;
     for (int round = 0; round < 200; round++) {

@@ -41,7 +41,7 @@ static unsigned check(const uint16_t *t, size_t t_len, const uint8_t *in, size_t
     return stack_len == 0 ? 27 : 0;
 }
 
-static void answer(const uint16_t *t, unsigned end, uint32_t steps, size_t depth, size_t listed, size_t pos, unsigned top,
+static void answer(const uint16_t *t, unsigned end, uint64_t steps, size_t depth, size_t listed, size_t pos, unsigned top,
                    uint64_t out[7])
 {
     const uint16_t *row = t + 4 + 2 * t[3] + t[0] + top * (t[1] + t[2]);
@@ -63,7 +63,7 @@ static void answer(const uint16_t *t, unsigned end, uint32_t steps, size_t depth
     }
 
 void plain_parse(const uint16_t *t, size_t t_len, const uint8_t *in, size_t in_len, uint16_t *stack, size_t stack_len,
-                 uint16_t *list, size_t list_len, uint32_t limit, uint64_t out[7])
+                 uint16_t *list, size_t list_len, uint64_t limit, uint64_t out[7])
 {
     for (int i = 0; i < 7; i++)
         out[i] = 0;
@@ -73,7 +73,7 @@ void plain_parse(const uint16_t *t, size_t t_len, const uint8_t *in, size_t in_l
     unsigned W = t[1] + t[2], top = 0, end;
     const uint16_t *left = t + 4, *length = left + t[3], *cells = length + t[3] + t[0];
     size_t depth = 1, listed = 0, pos = 0;
-    uint32_t steps = 0;
+    uint64_t steps = 0;
     stack[0] = 0;
     for (;;) {
         unsigned a = cells[top * W + (pos < in_len ? in[pos] : 0)];
@@ -127,15 +127,15 @@ void plain_parse(const uint16_t *t, size_t t_len, const uint8_t *in, size_t in_l
         if (n == 0 && depth == stack_len) \
             STOP(33) \
         stack[depth - n] = q; \
-        for (size_t i = 1; i < n; i++) \
-            stack[depth - n + i] = 0; \
+        for (size_t i = 2; i <= n; i++) \
+            stack[depth - n + i - 1] = 0; \
         depth = depth - n + 1; \
         top = q; \
         list[listed++] = a - 1024; \
     }
 
 void tuned_parse(const uint16_t *t, size_t t_len, const uint8_t *in, size_t in_len, uint16_t *stack, size_t stack_len,
-                 uint16_t *list, size_t list_len, uint32_t limit, uint64_t out[7])
+                 uint16_t *list, size_t list_len, uint64_t limit, uint64_t out[7])
 {
     for (int i = 0; i < 7; i++)
         out[i] = 0;
@@ -146,7 +146,7 @@ void tuned_parse(const uint16_t *t, size_t t_len, const uint8_t *in, size_t in_l
     unsigned end;
     const uint16_t *left = t + 4, *length = left + t[3], *cells = length + t[3] + t[0];
     size_t depth = 1, listed = 0, pos = 0;
-    uint32_t steps = 0;
+    uint64_t steps = 0;
     const uint16_t *column = cells + (in_len > 0 ? in[0] : 0);
     stack[0] = 0;
     for (;;) {

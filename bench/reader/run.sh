@@ -19,7 +19,7 @@ for f in grammars/*.txt; do
     gcc -O2 -c "$out/$g.c" -o "$out/$g.o"
     objects="$objects $out/$g.o"
 done
-gcc -O2 -Wall -c loop.c -o "$out/loop.o"
+gcc -O2 -Wall -Wextra -c loop.c -o "$out/loop.o"
 gcc -O2 -Wall -Wextra -I"$root/bindings/c" -I"$out" bench.c "$out/loop.o" $objects "$archive" -o "$out/bench"
 bison --version | head -1
 gcc --version | head -1

@@ -67,12 +67,14 @@ enum {
  * list, list_len     the list area. After an end the first `listed` places hold the productions
  *                    in the order of the reductions (backwards they are a rightmost derivation);
  *                    the others are unchanged.
- * step_limit         how many steps may be made.
+ * step_limit         how many steps may be made, 0 to 2^64 - 1.
  * out                the answer, seven numbers; all are written.
  *
  * What to lend: there is at most a shift for each terminal, a place of the list for each reduction, and one acceptance.
  * - So input_len + list_len + 1 steps are always enough: with that step limit 32 never comes, and the list's length
- *   bounds the steps and the time of a call, whatever the table is.
+ *   bounds the steps and the time of a call, whatever the table is. The sum always fits the step limit: lengths of
+ *   areas in memory are below 2^63 on x86-64. More gains nothing, and with UINT64_MAX 32 never comes.
+ * - An input of more than 2^32 steps needs a list of nearly as many places, 8.6 GB; with a shorter one 34 comes.
  * - A stack of input_len + list_len + 1 places is always enough, and one of input_len + 1 where no production is empty
  *   (only a shift and an empty production's reduction push more than they pop).
  * - How many reductions an input takes is the grammar's: 34 tells that the list is too short. By JSON's table (examples/)
@@ -80,8 +82,21 @@ enum {
  * What a call costs: it checks the whole table first, each time: 0.34 microseconds for the 530 numbers of JSON's table,
  * 1.4 for 256 rows of few cells, 7 to 26 for the largest table, of 32260 numbers (7 where no cell names a state, 21 where
  * all but those of column 0 do, 26 where half of them do by chance); then some 3 nanoseconds a step
- * (bench/reader/checks.sh and calls.c on an AMD EPYC). For an input of 9 terminals and 20 steps by JSON's table the check
- * is six sevenths of the time.
+ * in short inputs (bench/reader/checks.sh and calls.c), 3.5 to 6.5 in long ones (turns.sh), on an AMD EPYC. For an
+ * input of 9 terminals and 20 steps by JSON's table the check is six sevenths of the time.
+ *
+ * To callers of the call whose step_limit was a uint32_t:
+ * - Compile again, with this header, every file that calls it, and link with the archive that belongs to this header.
+ *   The name is the same, so the linker does not notice. An object of the old header leaves the upper half of the
+ *   parameter's place open, so that its limit may grow by any multiple of 2^32; what is open is mostly 0, so a test
+ *   may not show it. The old archive takes the lower half of the limit alone: a call with limit 2^32 that answers 32
+ *   with 0 steps has reached the old archive.
+ * - Declarations and types of function pointers that are written by hand, also in other languages, must be widened.
+ * - Otherwise no source has to be changed where an unsigned number of 32 bits is passed: it means what it meant, with the
+ *   same end and the same counts. UINT32_MAX is still that number, and no longer the largest: whoever means no limit
+ *   passes UINT64_MAX. What was negative or above UINT32_MAX was taken modulo 2^32, and is now taken modulo 2^64.
+ * - A place that keeps out[SIDUMZA_STEPS] in 32 bits must be widened, unless the limits stay below 2^32: no count passes
+ *   its limit. (-Wconversion finds such places, -Wall and -Wextra do not.)
  *
  * Every content of the table and the input, and every length, is answered: nothing is asked of them.
  * To the caller is left:
@@ -92,7 +107,7 @@ enum {
  * The function keeps no pointer and has no state of its own: calls from several threads are independent.
  */
 void sidumza_parse(const uint16_t *table, size_t table_len, const uint8_t *input, size_t input_len, uint16_t *stack,
-                   size_t stack_len, uint16_t *list, size_t list_len, uint32_t step_limit, uint64_t out[7]);
+                   size_t stack_len, uint16_t *list, size_t list_len, uint64_t step_limit, uint64_t out[7]);
 
 /* The lowest terminal of an expected set, 64 where the set is empty. */
 uint32_t sidumza_lowest(uint64_t expected);

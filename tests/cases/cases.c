@@ -26,6 +26,7 @@
        stacked NUMBERS, listed NUMBERS   the first places afterwards; places
                                    behind them are as they were              */
 
+#include <errno.h>
 #include <stdio.h>
 #include <stdlib.h>
 #include <string.h>
@@ -48,7 +49,7 @@ static uint16_t given[MANY];
 static uint8_t input[MANY];
 static uint16_t stack[MANY], list[MANY];
 static size_t card_len, given_len, input_len, stack_len, list_len, areas[3];
-static uint32_t limit;
+static uint64_t limit;
 static uint64_t out[7];
 static int answered;
 static char name[300], kind;
@@ -70,28 +71,38 @@ static void malformed(void) {
     exit(2);
 }
 
+/* The number at *from, up to 2^64 - 1; steps over it. */
+static uint64_t number(const char **from) {
+    char *end;
+    if (**from < '0' || **from > '9')
+        malformed();
+    errno = 0;
+    uint64_t value = strtoull(*from, &end, 10);
+    if (errno)
+        malformed();
+    *from = end;
+    return value;
+}
+
 /* The numbers of a line. */
 static void numbers(const char *from) {
     count = 0;
     while (*from) {
-        char *end;
         if (*from == ' ' || *from == ',' || *from == ':') {
             from++;
             continue;
         }
-        uint64_t value = strtoull(from, &end, 10), times = 1;
-        if (end == from)
-            malformed();
-        if (*end == '*') {
+        uint64_t value = number(&from), times = 1;
+        if (*from == '*') {
+            from++;
             times = value;
-            value = strtoull(end + 1, &end, 10);
+            value = number(&from);
         }
         for (; times > 0; times--) {
             if (count == MANY)
                 malformed();
             values[count++] = value;
         }
-        from = end;
     }
 }
 
@@ -283,7 +294,7 @@ static void read_line(const char *line) {
     } else if (kind == 'p' && starts(line, "list", &rest) && count == 1) {
         list_len = (size_t)values[0];
     } else if (kind == 'p' && starts(line, "limit", &rest) && count == 1) {
-        limit = (uint32_t)values[0];
+        limit = values[0];
     } else if (kind == 'p' && answered && starts(line, "stacked", &rest)) {
         compare_area("stack", stack);
     } else if (kind == 'p' && answered && starts(line, "listed", &rest)) {

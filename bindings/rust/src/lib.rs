@@ -5,7 +5,7 @@
 //! describes the table and the areas, and says how long they should be.
 //!
 //! [`read_table`] reads a table from the text that `maketable` prints; [`entered`] gives the symbols under which its
-//! states are entered. With the feature `generator` the module [`generator`] makes tables; it needs the archive
+//! states are entered. With the feature `generator` the module `generator` makes tables; it needs the archive
 //! `libgenerator_c.a`. The feature `parser`, on where nothing else is said, is the parser.
 
 #[cfg(feature = "generator")]
@@ -40,8 +40,8 @@ pub enum Refusal {
 /// What a parse did until its end.
 #[derive(Clone, Copy, Debug, PartialEq, Eq)]
 pub struct Counts {
-    /// The shifts, reductions and accepts made.
-    pub steps: u32,
+    /// The shifts, reductions and accepts made, at most the step limit.
+    pub steps: u64,
     /// The stack places in use: so many places of the stack area hold states.
     pub depth: usize,
     /// The productions listed: so many places of the list area hold productions.
@@ -80,7 +80,7 @@ mod archive {
             stack_len: usize,
             list: *mut u16,
             list_len: usize,
-            step_limit: u32,
+            step_limit: u64,
             out: *mut u64,
         );
         pub fn sidumza_lowest(expected: u64) -> u32;
@@ -92,8 +92,18 @@ mod archive {
 ///
 /// After an end the used places of `stack` and `list` hold states and productions; popped places
 /// of `stack` are 0, and places never used are unchanged.
+///
+/// `step_limit` is how many steps may be made. `(input.len() + list.len() + 1) as u64` are always enough; with
+/// `u64::MAX` [`Answer::StepLimit`] never comes.
+///
+/// To callers of the function whose `step_limit` was a `u32`: a number of 32 bits is passed as `u64::from(..)` and
+/// means what it meant, with the same answer and counts; whoever means no limit passes `u64::MAX` and not `u32::MAX`;
+/// [`Counts::steps`] is a `u64`, and a place that keeps it in 32 bits must be widened, or the count narrowed by hand
+/// where the limits stay below 2^32: no count passes its limit. The compiler finds these places, but for `as` casts,
+/// types that are inferred (`"..".parse()`, `to_le_bytes()`) and declarations of `sidumza_parse` by hand. The archive
+/// must be the one that belongs to this crate: an older one takes the lower half of the limit alone.
 #[cfg(feature = "parser")]
-pub fn parse(table: &[u16], input: &[u8], stack: &mut [u16], list: &mut [u16], step_limit: u32) -> Answer {
+pub fn parse(table: &[u16], input: &[u8], stack: &mut [u16], list: &mut [u16], step_limit: u64) -> Answer {
     let mut out = [0u64; 7];
     // SAFETY: each pointer comes with the length of its slice, `out` has the seven places that are
     // written, and the borrows make the exclusive slices disjoint from all others.
@@ -133,7 +143,7 @@ pub fn terminals(expected: u64) -> impl Iterator<Item = u32> {
 /// The seven numbers of the C call as an answer.
 #[cfg(feature = "parser")]
 fn answer(out: [u64; 7]) -> Answer {
-    let counts = Counts { steps: out[1] as u32, depth: out[2] as usize, listed: out[3] as usize };
+    let counts = Counts { steps: out[1], depth: out[2] as usize, listed: out[3] as usize };
     let refused = |refusal| Answer::Refused { refusal };
     match out[0] {
         0 => Answer::Accepted { counts },

@@ -140,7 +140,7 @@ fn stored_cards_give_their_answers_and_tables_are_read_back() {
 #[test]
 fn answers_have_words() {
     let table = table_of(&numbers(CARD_A)).expect("a table");
-    let said = |input: &[u8], stack: usize, list: usize, limit: u32| {
+    let said = |input: &[u8], stack: usize, list: usize, limit: u64| {
         let answer = parse(&table, input, &mut vec![0; stack], &mut vec![0; list], limit);
         let _: &dyn std::error::Error = &answer;
         (answer.number(), answer.to_string())
@@ -149,6 +149,8 @@ fn answers_have_words() {
         (said(&[2, 1], 9, 9, 9), 0, "accepted: steps 5, listed 2"),
         (said(&[2, 2], 9, 9, 9), 31, "wrong at 1: steps 1, expected 0 1"),
         (said(&[2, 1], 9, 9, 4), 32, "stopped 32: steps 4, stack 2, listed 2"),
+        (said(&[2, 1], 9, 9, (1 << 32) + 4), 0, "accepted: steps 5, listed 2"),
+        (said(&[2, 1], 9, 9, u64::MAX), 0, "accepted: steps 5, listed 2"),
         (said(&[2, 1], 2, 9, 9), 33, "stopped 33: steps 2, stack 2, listed 1"),
         (said(&[2, 1], 9, 1, 9), 34, "stopped 34: steps 3, stack 3, listed 1"),
         (said(&[9], 9, 9, 9), 26, "refused 26: no such terminal"),

@@ -10,3 +10,5 @@ pub mod Areas
 pub mod ReadsLaws
 pub mod ReportLaws
 pub mod Spent
+pub mod Widths
+pub mod Endless

@@ -3,4 +3,5 @@ pub mod Checks
 pub mod Report
 pub mod Faithful
 pub mod Reads
+pub mod Widths
 pub mod ComputedRun

@@ -2,31 +2,50 @@
 use mathlib.Core.Path.{_≡_, refl, sym, ap, subst, _∙_}
 use mathlib.Core.Bool.{false}
 use mathlib.Core.List.{List, _∷_}
-use Prim.Native.Nat.{ℕ, _+_, _-_, _*_, _<_, _≤_}
+use Prim.Native.Nat.{ℕ, _+_, _-_, _*_, _^_, _<_}
 use native.Mathlib.Omega.{arith}
-use lib.ListN.{length, getD}
+use lib.ListN.{length, getD, set, drop}
 use lib.Dec.{eqb}
 use Rattle.machine.specs.Report.{numbersOf}
 use Rattle.machine.specs.ComputedRun.{Machine, Next, actionOf, movedBy, Outcome, after, run, endedAt, wrongAt, reportOf}
 use Rattle.machine.proofs.RunLaws.{run-wrong, run-none, run-more}
+use Rattle.tables.specs.Shape.{Shaped}
 use Rattle.tables.specs.declared.Shape.{Shape}
 use Rattle.machine.proofs.Checked.{Passed}
-use Rattle.steps.specs.State.{machineOf, stopNumber, Held, Stepped}
+use Rattle.steps.specs.State.{machineOf, acceptedOf, stopNumber, Held, Stepped}
 use Rattle.steps.specs.declared.Stop.{Stop}
 use Rattle.steps.specs.declared.Stop.the-variants.{StackFull, ListFull, Broken}
 use Rattle.steps.specs.declared.Next.the-variants.{Ended, Moved, Accepted}
 use Rattle.steps.specs.declared.State.{State}
 use Rattle.parser.specs.Answer.{numbers}
-use Rattle.parser.specs.Phases.{reached, Ends}
+use Rattle.parser.specs.Phases.{reached, acceptedAt, Countable, Ends}
 use Rattle.parser.specs.declared.Answer.{Answer}
-use Rattle.parser.proofs.Held.{action-is}
+use Rattle.parser.proofs.Held.{held-start, action-is}
 
-pub record Going (t l cs st₀ li₀ : List ℕ) (a : ℕ) (z : Shape) (s₀ : State) (st li : List ℕ) (s : State) : Type 0 where
-  pub same : run t l (a - s .steps) (machineOf st li s) ≡ run t l a (machineOf st₀ li₀ s₀)
+-- the machine as the loop starts, with state 0 on the stack
+abbrev pub begun : List ℕ → List ℕ → Machine
+begun st li = record { stack = st; list = li; depth = 1; listed = 0; position = 0; steps = 0 }
+
+pub record Going (t l cs st₀ li₀ : List ℕ) (a : ℕ) (z : Shape) (st li : List ℕ) (s : State) : Type 0 where
+  pub same : run t l (s .left) (machineOf st li s) ≡ run t l a (begun st₀ li₀)
   pub held : Held t cs st li z s
-  pub most : s .steps ≤ a
+  -- the limit is what is made and what is left
+  pub spent : s .position + s .listed + s .left ≡ a
   pub stacks : length st ≡ length st₀
   pub lists : length li ≡ length li₀
+
+-- before the first step no step is made
+pub going-start : {t l cs li : List ℕ} {z : Shape} (st : List ℕ) (a : ℕ) → Passed t l (length st) → Shaped t z → cs ≡ drop (z .cells) t
+    → Going t l cs (set st 0 0) li a z (set st 0 0) li (record { depth = 1; listed = 0; position = 0; left = a; top = 0 })
+going-start st a p s e = record { same = refl; held = held-start st a p s e; spent = omega arith; stacks = refl; lists = refl }
+
+-- under a limit of w bits the steps made have w bits, and where one is left the next does, too
+module _ {t l cs st₀ li₀ st li : List ℕ} {a : ℕ} {z : Shape} {s : State} (g : Going t l cs st₀ li₀ a z st li s) (w : ℕ) (f : a < 2 ^ w) where
+  pub countable : Countable w s
+  countable = omega (arith, g .spent)
+
+  pub countable-next : (s .left ≡ 0 → ⊥) → s .position + s .listed + 1 < 2 ^ w
+  countable-next more = omega (arith, g .spent, more)
 
 module _ {t : List ℕ} {r : Answer} where
   ends-31 : (m : Machine) (o : Outcome) → record { number = 31; final = m } ≡ o → numbers r ≡ numbersOf (wrongAt t m) → Ends t o r (m .stack) (m .list)
@@ -43,52 +62,50 @@ stop-number StackFull = refl
 stop-number ListFull = refl
 stop-number Broken = refl
 
-module _ {t l cs st₀ li₀ : List ℕ} {a : ℕ} {z : Shape} {s₀ : State} {st li : List ℕ} {s : State} (g : Going t l cs st₀ li₀ a z s₀ st li s) {n : ℕ} (p : Passed t l n)
+module _ {t l cs st₀ li₀ : List ℕ} {a : ℕ} {z : Shape} {st li : List ℕ} {s : State} (g : Going t l cs st₀ li₀ a z st li s) {n : ℕ} (p : Passed t l n)
     {x : ℕ} (ex : x ≡ getD cs (getD l (s .position) 0 + s .top * z .width) 0) where
   act : x ≡ actionOf t l (machineOf st li s)
   act = action-is (g .held) p ex
 
-  pub stop-31 : {r : Answer} → x ≡ 0 → numbers r ≡ numbersOf (wrongAt t (machineOf st li s)) → Ends t (run t l a (machineOf st₀ li₀ s₀)) r st li
-  stop-31 e h = ends-31 (machineOf st li s) _ (sym (run-wrong t l (machineOf st li s) (a - s .steps) (sym act ∙ e)) ∙ g .same) h
+  pub stop-31 : {r : Answer} → x ≡ 0 → numbers r ≡ numbersOf (wrongAt t (machineOf st li s)) → Ends t (run t l a (begun st₀ li₀)) r st li
+  stop-31 e h = ends-31 (machineOf st li s) _ (sym (run-wrong t l (machineOf st li s) (s .left) (sym act ∙ e)) ∙ g .same) h
 
   module _ (nz : x ≡ 0 → ⊥) where
-    pub stop-32 : {r : Answer} → s .steps ≡ a → numbers r ≡ 32 ∷ reached s → Ends t (run t l a (machineOf st₀ li₀ s₀)) r st li
+    pub stop-32 : {r : Answer} → s .left ≡ 0 → numbers r ≡ 32 ∷ reached s → Ends t (run t l a (begun st₀ li₀)) r st li
     stop-32 e h =
         ends-else 32 (machineOf st li s) _ refl
-        (sym (run-none t l (machineOf st li s) (a - s .steps) (omega arith) (λ e. nz (act ∙ e))) ∙ g .same) h
+        (sym (run-none t l (machineOf st li s) (s .left) e (λ e. nz (act ∙ e))) ∙ g .same) h
 
-    module _ (more : s .steps ≡ a → ⊥) where
-      less : s .steps < a
-      less = let m = g .most in omega (arith, more)
+    module _ (more : s .left ≡ 0 → ⊥) where
+      some : 0 < s .left
+      some = omega (arith, more)
 
-      stepped : {m : Next} → m ≡ movedBy t x (machineOf st li s) → after (run t l ((a - s .steps) - 1)) m ≡ run t l a (machineOf st₀ li₀ s₀)
+      stepped : {m : Next} → m ≡ movedBy t x (machineOf st li s) → after (run t l (s .left - 1)) m ≡ run t l a (begun st₀ li₀)
       stepped e =
-          let h : 0 < a - s .steps = omega (arith, less) in
-          ap (after (run t l ((a - s .steps) - 1))) (e ∙ ap (λ (y : ℕ). movedBy t y (machineOf st li s)) act)
-          ∙ sym (run-more t l (machineOf st li s) (a - s .steps) h (λ e. nz (act ∙ e))) ∙ g .same
+          ap (after (run t l (s .left - 1))) (e ∙ ap (λ (y : ℕ). movedBy t y (machineOf st li s)) act)
+          ∙ sym (run-more t l (machineOf st li s) (s .left) some (λ e. nz (act ∙ e))) ∙ g .same
 
       module _ {st′ li′ : List ℕ} where
         pub stop-step : {e : Stop} {r : Answer} → Stepped t cs z s st′ li′ (Ended e) (movedBy t x (machineOf st li s))
-            → numbers r ≡ stopNumber e ∷ reached s → Ends t (run t l a (machineOf st₀ li₀ s₀)) r st′ li′
+            → numbers r ≡ stopNumber e ∷ reached s → Ends t (run t l a (begun st₀ li₀)) r st′ li′
         unfolding after
         stop-step {e} y h = ends-else (stopNumber e) (machineOf st′ li′ s) _ (stop-number e) (stepped (y .next)) h
 
-        module _ {s′ : State} where
-          pub accept-step : {r : Answer} → Stepped t cs z s st′ li′ (Accepted s′) (movedBy t x (machineOf st li s))
-              → numbers r ≡ 0 ∷ reached s′ → Ends t (run t l a (machineOf st₀ li₀ s₀)) r st′ li′
+        pub accept-step : {r : Answer} → Stepped t cs z s st′ li′ Accepted (movedBy t x (machineOf st li s))
+            → numbers r ≡ 0 ∷ acceptedAt s → Ends t (run t l a (begun st₀ li₀)) r st′ li′
+        unfolding after
+        accept-step y h = ends-else 0 (acceptedOf st′ li′ s) _ refl (stepped (y .next)) h
+
+        module _ {s′ : State} (y : Stepped t cs z s st′ li′ (Moved s′) (movedBy t x (machineOf st li s))) where
+          pub falls : s′ .left < s .left
+          falls = omega (arith, y .held .1)
+
+          pub goes-on : length st′ ≡ length st → length li′ ≡ length li → Going t l cs st₀ li₀ a z st′ li′ s′
           unfolding after
-          accept-step y h = ends-else 0 (machineOf st′ li′ s′) _ refl (stepped (y .next)) h
-
-          module _ (y : Stepped t cs z s st′ li′ (Moved s′) (movedBy t x (machineOf st li s))) where
-            pub falls : a - s′ .steps < a - s .steps
-            falls = omega (arith, y .held .1, less)
-
-            pub goes-on : length st′ ≡ length st → length li′ ≡ length li → Going t l cs st₀ li₀ a z s₀ st′ li′ s′
-            unfolding after
-            goes-on es el = record {
-              same = ap (λ (n : ℕ). run t l n (machineOf st′ li′ s′)) (omega (arith, y .held .1)) ∙ stepped (y .next);
-              held = y .held .0;
-              most = omega (arith, y .held .1, less);
-              stacks = es ∙ g .stacks;
-              lists = el ∙ g .lists;
-            }
+          goes-on es el = record {
+            same = ap (λ (n : ℕ). run t l n (machineOf st′ li′ s′)) (omega (arith, y .held .1)) ∙ stepped (y .next);
+            held = y .held .0;
+            spent = omega (arith, y .held .1, y .held .2, g .spent);
+            stacks = es ∙ g .stacks;
+            lists = el ∙ g .lists;
+          }

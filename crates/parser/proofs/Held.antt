@@ -1,7 +1,7 @@
 -- What the checks and the state between steps give each call of the loop.
 use mathlib.Core.Path.{_≡_, sym, ap, _∙_}
 use mathlib.Core.List.{List, _∷_, [], _++_}
-use Prim.Native.Nat.{ℕ, _+_, _-_, _*_, _^_, _<_, _≤_, zero-le}
+use Prim.Native.Nat.{ℕ, zero, suc, _+_, _-_, _*_, _^_, _<_, _≤_, zero-le}
 use native.Mathlib.Omega.{arith}
 use lib.ListN.{length, set, getD, drop, length-set}
 use lib.Seq.{getD-set-same}
@@ -20,11 +20,17 @@ use Rattle.parser.specs.Phases.{reached}
 use Rattle.parser.specs.declared.Counts.{Counts}
 use Rattle.parser.specs.declared.Answer.the-variants.{NoAction}
 
--- the stack starts with state 0
-pub held-start : {t l cs li : List ℕ} {z : Shape} (st : List ℕ) → Passed t l (length st) → Shaped t z → cs ≡ drop (z .cells) t
-    → Held t cs (set st 0 0) li z (record { depth = 1; listed = 0; position = 0; steps = 0; top = 0 })
+-- where a terminal stands, the input has not ended
+before-end : (l : List ℕ) (i : ℕ) → 0 < getD l i 0 → i < length l
+before-end [] i h = absurd (omega arith)
+before-end (x ∷ l) zero h = omega arith
+before-end (x ∷ l) (suc i) h = let k = before-end l i h in omega arith
+
+-- the stack starts with state 0, and the whole limit is left
+pub held-start : {t l cs li : List ℕ} {z : Shape} (st : List ℕ) (a : ℕ) → Passed t l (length st) → Shaped t z → cs ≡ drop (z .cells) t
+    → Held t cs (set st 0 0) li z (record { depth = 1; listed = 0; position = 0; left = a; top = 0 })
 unfolding topOf
-held-start st p s e =
+held-start st a p s e =
     let first : getD (set st 0 0) 0 0 ≡ 0 = getD-set-same st 0 0 0 (p .places) in
     record {
       checked = p .table;
@@ -80,13 +86,13 @@ module _ {t cs st li : List ℕ} {z : Shape} {s : State} (h : Held t cs st li z 
       unfolding actionOf
       action-is = rw (← h .top-is) cell-is
 
-      pub steppable : {a : ℕ} → x < 2 ^ 16 → (x ≡ 0 → ⊥) → s .steps ≤ a → (s .steps ≡ a → ⊥) → a < 2 ^ 32 → Steppable t cs st li z s x
-      steppable b nz most more f = record {
+      pub steppable : x < 2 ^ 16 → (x ≡ 0 → ⊥) → (s .left ≡ 0 → ⊥) → Steppable t cs st li z s x
+      steppable b nz more = record {
         held = h;
         fits = b;
         shift-in = λ k.
-            rw (h .shaped .states-are, cell-is)
-            (shift-passed (h .checked) (s .top) (getD l (s .position) 0) top-in (next-passed p (s .position)) (rw (← cell-is) (omega (arith, nz))) (rw (← cell-is) k) .0);
+            let sh = shift-passed (h .checked) (s .top) (getD l (s .position) 0) top-in (next-passed p (s .position)) (rw (← cell-is) (omega (arith, nz))) (rw (← cell-is) k) in
+            (rw (h .shaped .states-are, cell-is) (sh .0), omega (arith, p .short, before-end l (s .position) (sh .1)));
         reduction-in = λ k y.
             rw cell-is
             (reduce-passed (h .checked) (s .top) (getD l (s .position) 0) top-in (next-passed p (s .position)) (rw (← cell-is) k) (λ e. y (cell-is ∙ e)));

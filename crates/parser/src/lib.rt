@@ -7,19 +7,19 @@ use table_checks::Verdict;
 use tables::Shape;
 ghost use mathlib.Core.Path.{_≡_};
 ghost use mathlib.Core.List.{List, _∷_};
-ghost use Prim.Native.Nat.{ℕ, _+_, _*_, _≤_};
+ghost use Prim.Native.Nat.{ℕ, _+_, _*_, _^_, _<_, _≤_};
 ghost use lib.ListN.{length};
 ghost use Rattle.machine.specs.Checks.{refusalOf};
 ghost use Rattle.machine.specs.Report.{numbersOf};
 ghost use Rattle.machine.specs.ComputedRun.{run as runs, start, wrongAt, reading};
 ghost use Rattle.steps.specs.State.{machineOf, stopNumber, Held};
 ghost use Rattle.parser.specs.Answer.{countsOf, numbers, ReadsAs};
-ghost use Rattle.parser.specs.Phases.{reached, Ends};
+ghost use Rattle.parser.specs.Phases.{reached, acceptedAt, countBits, Countable, Ends};
 ghost use Rattle.parser.specs.Terminals.{Lists};
 
 // The steps made, the stack places in use and the productions listed.
 pub struct Counts {
-    pub steps: u32,
+    pub steps: u64,
     pub depth: usize,
     pub listed: usize,
 }
@@ -43,17 +43,18 @@ pub enum Answer {
 }
 
 fn count(s: State) -> Counts
+    requires { ⌜ Countable countBits s ⌝ }
     ensures { λ r. ⌜ countsOf r ≡ reached s ⌝ }
 {
     Counts {
-        steps: s.steps,
+        steps: (s.position + s.listed) as u64,
         depth: s.depth,
         listed: s.listed,
     }
 }
 
 fn no_action(cells: &[u16], z: Shape, s: State) -> Answer
-    requires { ⌜ (z .terminals ≤ 64) × (s .top * z .width + z .terminals ≤ length (now cells)) ⌝ }
+    requires { ⌜ (z .terminals ≤ 64) × (s .top * z .width + z .terminals ≤ length (now cells)) × (Countable countBits s) ⌝ }
     ensures { λ r. ⌜ ((t st li : List ℕ) → Held t (now (cells .entry)) st li z s → numbers r ≡ numbersOf (wrongAt t (machineOf st li s))) ⌝ }
 {
     let word = steps::expected(cells, z, s.top);
@@ -68,6 +69,7 @@ fn no_action(cells: &[u16], z: Shape, s: State) -> Answer
 }
 
 fn stopped(e: Stop, s: State) -> Answer
+    requires { ⌜ Countable countBits s ⌝ }
     ensures { λ r. ⌜ numbers r ≡ stopNumber e ∷ reached s ⌝ }
 {
     let c = count(s);
@@ -78,8 +80,20 @@ fn stopped(e: Stop, s: State) -> Answer
     }
 }
 
+// Acceptance is a step of its own.
+fn accepted(s: State) -> Answer
+    requires { ⌜ s .position + s .listed + 1 < 2 ^ countBits ⌝ }
+    ensures { λ r. ⌜ numbers r ≡ 0 ∷ acceptedAt s ⌝ }
+{
+    Answer::Accepted(Counts {
+        steps: (s.position + s.listed + 1) as u64,
+        depth: s.depth,
+        listed: s.listed,
+    })
+}
+
 // The reading of an input by a table, both checked.
-fn run(table: &[u16], input: &[u8], stack: &mut [u16], list: &mut [u16], step_limit: u32) -> Answer
+fn run(table: &[u16], input: &[u8], stack: &mut [u16], list: &mut [u16], step_limit: u64) -> Answer
     requires { ⌜ refusalOf (now table) (now input) (length (now stack)) ≡ 0 ⌝ }
     ensures { λ r. ⌜ Ends (now (table .entry)) (runs (now (table .entry)) (now (input .entry)) «step_limit» (start (now (stack .entry)) (now (list .entry)))) r (now (stack .exit)) (now (list .exit)) ⌝ }
 {
@@ -90,7 +104,7 @@ fn run(table: &[u16], input: &[u8], stack: &mut [u16], list: &mut [u16], step_li
         depth: 1,
         listed: 0,
         position: 0,
-        steps: 0,
+        left: step_limit,
         top: 0,
     };
     loop {
@@ -98,7 +112,7 @@ fn run(table: &[u16], input: &[u8], stack: &mut [u16], list: &mut [u16], step_li
         if a == 0 {
             return no_action(cells, z, s);
         }
-        if s.steps == step_limit {
+        if s.left == 0 {
             return Answer::StepLimit(count(s));
         }
         let n = steps::step(table, cells, stack, list, z, s, a);
@@ -109,8 +123,8 @@ fn run(table: &[u16], input: &[u8], stack: &mut [u16], list: &mut [u16], step_li
             Next::Moved(t) => {
                 s = t;
             }
-            Next::Accepted(t) => {
-                return Answer::Accepted(count(t));
+            Next::Accepted => {
+                return accepted(s);
             }
         }
     }
@@ -122,7 +136,7 @@ pub fn parse(
     input: &[u8],
     stack: &mut [u16],
     list: &mut [u16],
-    step_limit: u32,
+    step_limit: u64,
 ) -> Answer
     ensures { λ r. ⌜ ReadsAs (reading (now (table .entry)) (now (input .entry)) (now (stack .entry)) (now (list .entry)) «step_limit») r (now (stack .exit)) (now (list .exit)) ⌝ }
 {

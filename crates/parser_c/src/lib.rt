@@ -14,7 +14,7 @@ ghost use Rattle.parser_c.specs.Out.{padded, WritesOut};
 fn end(n: u64, c: Counts) -> [u64; 7]
     ensures { λ r. ⌜ r ≡ padded (n ∷ countsOf c) ⌝ }
 {
-    [n, c.steps as u64, c.depth as u64, c.listed as u64, 0, 0, 0]
+    [n, c.steps, c.depth as u64, c.listed as u64, 0, 0, 0]
 }
 
 fn refused(e: Refusal) -> [u64; 7]
@@ -46,7 +46,7 @@ fn seven(a: Answer) -> [u64; 7]
             counts,
         } => [
             31,
-            counts.steps as u64,
+            counts.steps,
             counts.depth as u64,
             counts.listed as u64,
             position as u64,
@@ -66,7 +66,7 @@ pub extern "C" fn sidumza_parse(
     input: &[u8],
     stack: &mut [u16],
     list: &mut [u16],
-    step_limit: u32,
+    step_limit: u64,
     out: &mut [u64; 7],
 )
     ensures { λ _. ⌜ WritesOut (reading (now (table .entry)) (now (input .entry)) (now (stack .entry)) (now (list .entry)) «step_limit») (now (out .exit)) (now (stack .exit)) (now (list .exit)) ⌝ }

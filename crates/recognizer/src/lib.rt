@@ -11,7 +11,7 @@ pub enum Outcome {
 pub fn recognize(
     card: &[u16],
     input: &[u8],
-    step_limit: u32,
+    step_limit: u64,
     table: &mut [u16],
     words: &mut [u64],
     halves: &mut [u32],

@@ -8,7 +8,7 @@ use lib.ListN.{length, getD, set, length-set}
 use lib.Seq.{getD-set-same, getD-set-other}
 use Rattle.sets.proofs.HasLaws.{lt-or-ge}
 use Rattle.tables.specs.Layout.{states, width, leftOf, lengthOf, cellOf}
-use Rattle.machine.specs.ComputedRun.{popped, topOf, reducedTo, reduced}
+use Rattle.machine.specs.ComputedRun.{popped, topOf, shifted, reducedTo, reduced}
 use Rattle.machine.specs.ComputedRun as machine
 use Rattle.tables.specs.declared.Shape.{Shape}
 use Rattle.tables.proofs.Places.{cell-in}
@@ -17,7 +17,7 @@ use Rattle.steps.specs.State.{machineOf, Held, Stepped, Reducible}
 use Rattle.steps.specs.declared.Next.{Next}
 use Rattle.steps.specs.declared.Next.the-variants.{Ended, Moved}
 use Rattle.steps.specs.declared.Stop.the-variants.{StackFull, Broken}
-use Rattle.machine.proofs.RunLaws.{reducedTo-none, reducedTo-full, reducedTo-goes, reduced-to}
+use Rattle.machine.proofs.RunLaws.{shifted-goes, reducedTo-none, reducedTo-full, reducedTo-goes, reduced-to}
 use Rattle.steps.specs.declared.State.{State}
 
 pub popped-length : (s : List ℕ) (d n : ℕ) → length (popped s d n) ≡ length s
@@ -51,18 +51,26 @@ pub restep : {t cs st li : List ℕ} {z : Shape} {s : State} {x : Next} {m m′ 
 restep e y = record { next = y .next ∙ e; held = y .held }
 
 module _ {t cs st li : List ℕ} {z : Shape} {s : State} where
-  pub kept-shift : Held t cs st li z s → (a : ℕ) → a < z .states → s .depth < length st
-      → Held t cs (set st (s .depth) a) li z (record { depth = s .depth + 1; listed = s .listed; position = s .position + 1; steps = s .steps + 1; top = a })
-  kept-shift h a b k = record {
+  kept-shift : Held t cs st li z s → (a : ℕ) → a < z .states → s .position < 65535 → s .depth < length st
+      → Held t cs (set st (s .depth) a) li z (record { depth = s .depth + 1; listed = s .listed; position = s .position + 1; left = s .left - 1; top = a })
+  kept-shift h a b p k = record {
     checked = h .checked;
     shaped = h .shaped;
     rows = h .rows;
     deep = omega arith;
     within = rw length-set (omega arith);
     room = h .room;
-    passed = omega (arith, h .passed);
+    passed = omega (arith, p);
     states-in = states-more st (s .depth) a (z .states) k b (h .states-in);
     top-is = top-more st (s .depth) a k;
+  }
+
+  pub shift-goes : Held t cs st li z s → 0 < s .left → (a : ℕ) → a < z .states → s .position < 65535 → s .depth < length st
+      → Stepped t cs z s (set st (s .depth) a) li (Moved (record { depth = s .depth + 1; listed = s .listed; position = s .position + 1; left = s .left - 1; top = a }))
+      (shifted a (machineOf st li s))
+  shift-goes h more a b p k = record {
+    next = let e : s .position + 1 + s .listed ≡ s .position + s .listed + 1 = omega arith in rw e (sym (shifted-goes a (machineOf st li s) k));
+    held = (kept-shift h a b p k, omega arith, omega arith);
   }
 
   module _ {r n under : ℕ} (g : Reducible t cs st li z s r n under) where
@@ -86,7 +94,7 @@ module _ {t cs st li : List ℕ} {z : Shape} {s : State} where
         goto-is = eq ∙ rw (h .rows, el) (cell-in (h .shaped) under (leftOf t r))
 
         pub kept-reduce : {p : List ℕ} → p ≡ popped st (s .depth) n → s .depth - n < length st
-            → Held t cs (set p (s .depth - n) q) (set li (s .listed) r) z (record { depth = s .depth - n + 1; listed = s .listed + 1; position = s .position; steps = s .steps + 1; top = q })
+            → Held t cs (set p (s .depth - n) q) (set li (s .listed) r) z (record { depth = s .depth - n + 1; listed = s .listed + 1; position = s .position; left = s .left - 1; top = q })
         kept-reduce {p} ep k =
             let lp = left-passed (h .checked) r (g .production) in
             let qb : q < z .states = rw (goto-is, h .shaped .states-are) (goto-passed (h .checked) under (leftOf t r) under-in (lp .0) (lp .1)) in
@@ -101,7 +109,7 @@ module _ {t cs st li : List ℕ} {z : Shape} {s : State} where
               deep = omega arith;
               within = rw length-set (omega arith);
               room = rw length-set (omega arith);
-              passed = omega (arith, h .passed);
+              passed = h .passed;
               states-in = states-more p (s .depth - n) q (z .states) low qb
                   (λ i b. rw (ep, popped-at st (s .depth) n i (omega arith) b) (h .states-in i (omega arith)));
               top-is = top-more p (s .depth - n) q low;
@@ -117,12 +125,15 @@ module _ {t cs st li : List ℕ} {z : Shape} {s : State} where
 
         pub reduce-goes : {p : List ℕ} → p ≡ popped st (s .depth) n → (q ≡ 0 → ⊥) → s .depth - n < length st
             → Stepped t cs z s (set p (s .depth - n) q) (set li (s .listed) r)
-            (Moved (record { depth = s .depth - n + 1; listed = s .listed + 1; position = s .position; steps = s .steps + 1; top = q }))
+            (Moved (record { depth = s .depth - n + 1; listed = s .listed + 1; position = s .position; left = s .left - 1; top = q }))
             (reducedTo r n (s .depth - n) (cellOf t under (leftOf t r)) (machineOf st li s))
-        reduce-goes {p} ep e k = record {
-          next = reducedTo-goes r n (s .depth - n) q (machineOf st li s) p ep e k
-              ∙ ap (λ (v : ℕ). reducedTo r n (s .depth - n) v (machineOf st li s)) goto-is;
-          held = (kept-reduce ep k, refl);
+        reduce-goes {p} ep e₀ k = record {
+          next =
+              let e : s .position + (s .listed + 1) ≡ s .position + s .listed + 1 = omega arith in
+              rw e
+              (reducedTo-goes r n (s .depth - n) q (machineOf st li s) p ep e₀ k
+              ∙ ap (λ (v : ℕ). reducedTo r n (s .depth - n) v (machineOf st li s)) goto-is);
+          held = (kept-reduce ep k, (let b = g .more in omega arith), omega arith);
         }
 
     -- the reduction of a production's own length

@@ -10,12 +10,13 @@ ghost use Rattle.machine.specs.ComputedRun.{popped, shifted, reducedTo, reduced
 ghost use Rattle.tables.specs.declared.Shape.{Shape};
 ghost use Rattle.steps.specs.State.{machineOf, Held, Stepped, Reducible, Steppable};
 
-// The stack places in use, the productions listed, the terminals passed, the steps made and the state on top.
+// The stack places in use, the productions listed, the terminals passed, how many steps may still be made, and the
+// state on top. The steps made need no counter: each has passed a terminal or listed a production.
 pub struct State {
     pub depth: usize,
     pub listed: usize,
     pub position: usize,
-    pub steps: u32,
+    pub left: u64,
     pub top: usize,
 }
 
@@ -29,7 +30,7 @@ pub enum Stop {
 pub enum Next {
     Ended(Stop),
     Moved(State),
-    Accepted(State),
+    Accepted,
 }
 
 // Pops n states: their places become 0.
@@ -56,17 +57,18 @@ pub fn action(cells: &[u16], input: &[u8], z: Shape, s: State) -> usize
 }
 
 fn shift(stack: &mut [u16], s: State, a: usize) -> Next
-    requires { ⌜ (a < 2 ^ 16) × (s .position < 2 ^ 32) × (s .steps + 1 < 2 ^ 32) ⌝ }
+    requires { ⌜ (a < 2 ^ 16) × (s .position < 65535) × (0 < s .left) ⌝ }
     ensures { λ x. ⌜ ((t cs li : List ℕ) (z : Shape) → Held t cs (now (stack .entry)) li z s → a < z .states → Stepped t cs z s (now (stack .exit)) li x (shifted a (machineOf (now (stack .entry)) li s))) ⌝ }
 {
     let at = s.depth;
     if at < stack.len() {
+        let left = s.left - 1;
         stack[at] = a as u16;
         Next::Moved(State {
             depth: at + 1,
             listed: s.listed,
             position: s.position + 1,
-            steps: s.steps + 1,
+            left,
             top: a,
         })
     } else {
@@ -104,7 +106,7 @@ fn reduce_from(
             depth: d + 1,
             listed: k + 1,
             position: s.position,
-            steps: s.steps + 1,
+            left: s.left - 1,
             top: q as usize,
         })
     } else {
@@ -122,7 +124,7 @@ fn reduce_empty(
     s: State,
     r: usize,
 ) -> Next
-    requires { ⌜ (Held (now table) (now cells) (now stack) (now list) z s) × (r < productions (now table)) × (lengthOf (now table) r ≡ 0) × (s .steps + 1 < 2 ^ 32) ⌝ }
+    requires { ⌜ (Held (now table) (now cells) (now stack) (now list) z s) × (r < productions (now table)) × (lengthOf (now table) r ≡ 0) × (0 < s .left) ⌝ }
     ensures { λ x. ⌜ Stepped (now (table .entry)) (now (cells .entry)) z s (now (stack .exit)) (now (list .exit)) x (reduced (now (table .entry)) r (machineOf (now (stack .entry)) (now (list .entry)) s)) ⌝ }
 {
     let k = s.listed;
@@ -143,7 +145,7 @@ fn reduce(
     r: usize,
     n: usize,
 ) -> Next
-    requires { ⌜ (Held (now table) (now cells) (now stack) (now list) z s) × (r < productions (now table)) × (lengthOf (now table) r ≡ n) × (s .steps + 1 < 2 ^ 32) ⌝ }
+    requires { ⌜ (Held (now table) (now cells) (now stack) (now list) z s) × (r < productions (now table)) × (lengthOf (now table) r ≡ n) × (0 < s .left) ⌝ }
     ensures { λ x. ⌜ Stepped (now (table .entry)) (now (cells .entry)) z s (now (stack .exit)) (now (list .exit)) x (reduced (now (table .entry)) r (machineOf (now (stack .entry)) (now (list .entry)) s)) ⌝ }
 {
     if s.listed < list.len() {
@@ -169,7 +171,7 @@ fn reduce_by(
     s: State,
     r: usize,
 ) -> Next
-    requires { ⌜ (Held (now table) (now cells) (now stack) (now list) z s) × (r < productions (now table)) × (s .steps + 1 < 2 ^ 32) ⌝ }
+    requires { ⌜ (Held (now table) (now cells) (now stack) (now list) z s) × (r < productions (now table)) × (0 < s .left) ⌝ }
     ensures { λ x. ⌜ Stepped (now (table .entry)) (now (cells .entry)) z s (now (stack .exit)) (now (list .exit)) x (reduced (now (table .entry)) r (machineOf (now (stack .entry)) (now (list .entry)) s)) ⌝ }
 {
     let n = tables::length_of(table, z, r) as usize;
@@ -206,14 +208,7 @@ pub fn step(
     if a < 1024 {
         shift(stack, s, a)
     } else if a == 4096 {
-        let counted = s.steps + 1;
-        Next::Accepted(State {
-            depth: s.depth,
-            listed: s.listed,
-            position: s.position,
-            steps: counted,
-            top: s.top,
-        })
+        Next::Accepted
     } else {
         reduce_by(table, cells, stack, list, z, s, a - 1024)
     }

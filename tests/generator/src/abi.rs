@@ -62,7 +62,7 @@ extern "C" {
         stack_len: usize,
         list: *mut u16,
         list_len: usize,
-        step_limit: u32,
+        step_limit: u64,
         out: *mut u64,
     );
 }
@@ -78,7 +78,7 @@ unsafe extern "C" fn sidumza_parse(
     stack_len: usize,
     list: *mut u16,
     list_len: usize,
-    step_limit: u32,
+    step_limit: u64,
     out: *mut u64,
 ) {
     use std::slice::{from_raw_parts, from_raw_parts_mut};
@@ -96,7 +96,7 @@ unsafe extern "C" fn sidumza_parse(
 pub type Generator = dyn Fn(&[u16], &mut [u16], &mut [u64], &mut [u32]) -> [u64; 5];
 
 /// Reads an input: table, input, stack area, list area, step limit.
-pub type Parser = dyn Fn(&[u16], &[u8], &mut [u16], &mut [u16], u32) -> [u64; 7];
+pub type Parser = dyn Fn(&[u16], &[u8], &mut [u16], &mut [u16], u64) -> [u64; 7];
 
 pub fn generate(card: &[u16], table: &mut [u16], work: &mut [u64], work2: &mut [u32]) -> [u64; 5] {
     // What is not written must not look like an answer.
@@ -122,7 +122,7 @@ pub fn parse(
     input: &[u8],
     stack: &mut [u16],
     list: &mut [u16],
-    step_limit: u32,
+    step_limit: u64,
 ) -> [u64; 7] {
     let mut out = [99; 7];
     unsafe {

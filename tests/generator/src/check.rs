@@ -202,8 +202,9 @@ impl Counts {
     }
 }
 
-/// Steps that no input of the tests needs.
-const ENOUGH: u32 = 50_000;
+/// Steps that no input of the tests needs: a small limit, and wide ones whose lower half
+/// or whose other 63 bits are few steps or none.
+const ENOUGH: [u64; 6] = [50_000, 1 << 32, (1 << 32) + 3, 5 << 40, 1 << 63, u64::MAX];
 
 pub struct Checker {
     areas: Areas,
@@ -287,13 +288,14 @@ impl Checker {
 
     /// Lends areas to the parser and gives its step limit; one of the three is
     /// short for one input in four.
-    fn lend(&mut self, random: &mut Random) -> u32 {
-        let (mut stack, mut list, mut limit) = (self.stack.longest(), self.list.longest(), ENOUGH);
+    fn lend(&mut self, random: &mut Random) -> u64 {
+        let (mut stack, mut list) = (self.stack.longest(), self.list.longest());
+        let mut limit = *random.pick(&ENOUGH);
         if random.chance(25) {
             match random.below(3) {
                 0 => stack = random.below(12),
                 1 => list = random.below(16),
-                _ => limit = random.below(40) as u32,
+                _ => limit = random.below(40) as u64,
             }
         }
         self.stack.lend(random, stack);
@@ -307,7 +309,7 @@ impl Checker {
         &mut self,
         grammar: &Grammar,
         input: &[u8],
-        limit: u32,
+        limit: u64,
         parser: &Parser,
     ) -> Result<(), String> {
         let table = &self.areas.table.now[..self.areas.table.length];
@@ -385,7 +387,7 @@ impl Checker {
                     self.counts.wrong_before += 1;
                 }
             }
-            32 if outcome.steps == limit as u64 => self.counts.ran_out += 1,
+            32 if outcome.steps == limit => self.counts.ran_out += 1,
             33 if outcome.depth == stack as u64 => self.counts.ran_out += 1,
             34 if listed == list => self.counts.ran_out += 1,
             number => return Err(format!("ended with {number}")),

@@ -105,7 +105,7 @@ fn found(
     None
 }
 
-fn parser(t: &[u16], i: &[u8], s: &mut [u16], l: &mut [u16], limit: u32) -> [u64; 7] {
+fn parser(t: &[u16], i: &[u8], s: &mut [u16], l: &mut [u16], limit: u64) -> [u64; 7] {
     reference::parser::parse(t, i, s, l, limit).out()
 }
 

@@ -722,5 +722,17 @@ pub fn parsers() -> Vec<(&'static str, Box<Parser>)> {
                 parse(table, input, stack, list, limit.saturating_sub(1)).out()
             }),
         ),
+        (
+            "step limit modulo 2^32",
+            Box::new(|table, input, stack, list, limit| {
+                parse(table, input, stack, list, limit & u64::from(u32::MAX)).out()
+            }),
+        ),
+        (
+            "step limit as a signed number",
+            Box::new(|table, input, stack, list, limit| {
+                parse(table, input, stack, list, (limit as i64).max(0) as u64).out()
+            }),
+        ),
     ]
 }

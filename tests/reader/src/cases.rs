@@ -43,7 +43,7 @@ pub struct Case {
     pub input: Vec<u8>,
     pub stack: Vec<u16>,
     pub list: Vec<u16>,
-    pub limit: u32,
+    pub limit: u64,
     // The table was made without entering symbols and has not been damaged.
     pub without_entered: bool,
 }
@@ -264,6 +264,29 @@ fn damage(r: &mut Random, table: &mut Vec<u16>) {
     }
 }
 
+// A limit from 2^32 on whose lower half, or what is left without some of its high bits, is few steps.
+fn wide_limit(r: &mut Random, few: u64) -> u64 {
+    let high = match r.below(3) {
+        0 => 1 << 32,
+        1 => 1 << r.between(32, 63),
+        _ => (r.next() >> 32).max(1) << 32,
+    };
+    high + few
+}
+
+// Step limits: ones that are reached, ones that are not, ones of more than 32 bits and ones beside their bounds.
+fn step_limit(r: &mut Random) -> u64 {
+    let few = r.of(&[0, 1, 2, 3, 5, 9, 20, 50, 100]);
+    if r.one_in(3) {
+        return few;
+    }
+    match r.below(4) {
+        0 => wide_limit(r, few),
+        1 => r.of(&[(1 << 32) - 1, 1 << 32, (1 << 32) + 1, (1 << 63) - 1, 1 << 63, u64::MAX - 1, u64::MAX]),
+        _ => r.of(&[3000, 1000000]),
+    }
+}
+
 fn fill(r: &mut Random, area: &mut Vec<u16>, n: usize) {
     area.clear();
     while area.len() < n {
@@ -364,16 +387,19 @@ impl Cases {
         let lengths = [0, 1, 1, 2, 3, 4, 6, 10, 30, 100];
         let mut stack = if r.one_in(3) { r.of(&lengths) } else { 300 };
         let mut list = if r.one_in(3) { r.of(&lengths) } else { 300 };
-        c.limit = if r.one_in(3) { r.of(&[0, 1, 2, 3, 5, 9, 20, 50, 100]) } else { r.of(&[3000, 1000000, u32::MAX]) };
+        c.limit = step_limit(r);
         if r.one_in(8) {
             // Limits that are just reached, or just missed.
             let o = reference::parse(&c.table, &c.input, &mut self.scratch.0, &mut self.scratch.1, 3000);
-            (stack, list, c.limit) = (1000, 1000, u32::MAX);
+            (stack, list, c.limit) = (1000, 1000, u64::MAX);
             let off = r.below(3);
             match r.below(3) {
-                0 => c.limit = (o.out[1] as u32 + off as u32).saturating_sub(1),
+                0 => c.limit = (o.out[1] + off as u64).saturating_sub(1),
                 1 => stack = (o.high + off).saturating_sub(1),
                 _ => list = (o.out[3] as usize + off).saturating_sub(1),
+            }
+            if c.limit < 1 << 32 && r.one_in(4) {
+                c.limit = wide_limit(r, c.limit);
             }
         }
         // 44 beside 26 and 27.
@@ -432,5 +458,5 @@ fn huge(r: &mut Random, c: &mut Case, languages: &[Language], spare: &mut Vec<u1
     }
     fill(r, &mut c.stack, 70000);
     fill(r, &mut c.list, 200000);
-    c.limit = r.of(&[150000, u32::MAX]);
+    c.limit = r.of(&[150000, u32::MAX as u64, 1 << 32, u64::MAX]);
 }

@@ -4,7 +4,7 @@ use crate::cases::{Case, Cases};
 use sidumza::parse;
 
 fn number(c: &Case, places: usize, steps: usize) -> u32 {
-    parse(&c.table, &c.input, &mut vec![0; places], &mut c.list.clone(), steps as u32).number()
+    parse(&c.table, &c.input, &mut vec![0; places], &mut c.list.clone(), steps as u64).number()
 }
 
 pub fn enough(seed: u64, count: u64) -> bool {

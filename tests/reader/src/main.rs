@@ -25,7 +25,7 @@ extern "C" {
         stack_len: usize,
         list: *mut u16,
         list_len: usize,
-        step_limit: u32,
+        step_limit: u64,
         out: *mut u64,
     );
 }
@@ -132,7 +132,7 @@ fn numbers(a: Answer) -> [u64; 7] {
             let listed = (0..64).filter(|m| expected >> m & 1 == 1);
             assert!(sidumza::terminals(expected).eq(listed), "the terminals of {expected:x}");
             let (place, count) = (position as u64, expected_count as u64);
-            return [31, c.steps as u64, c.depth as u64, c.listed as u64, place, expected, count];
+            return [31, c.steps, c.depth as u64, c.listed as u64, place, expected, count];
         }
         Answer::Accepted { counts } => (0, counts),
         Answer::StepLimit { counts } => (32, counts),
@@ -140,11 +140,12 @@ fn numbers(a: Answer) -> [u64; 7] {
         Answer::ListFull { counts } => (34, counts),
         Answer::BadGoto { counts } => (35, counts),
     };
-    [n, c.steps as u64, c.depth as u64, c.listed as u64, 0, 0, 0]
+    [n, c.steps, c.depth as u64, c.listed as u64, 0, 0, 0]
 }
 
 struct Run {
     entered: Entered,
+    limits: Limits,
     // How often each number came.
     seen: BTreeMap<u64, u64>,
     // The first case that differs, and how.
@@ -210,12 +211,51 @@ impl Entered {
     }
 }
 
+// How often a limit of more than 32 bits allowed steps that a part of it would not.
+#[derive(Default)]
+struct Limits {
+    // More steps than the lower half, than the upper half, and any under a limit that is negative as a signed number.
+    lower: u64,
+    upper: u64,
+    signed: u64,
+    // Any steps at 2^32 - 1, 2^32, 2^32 + 1 and 2^64 - 1.
+    bounds: [u64; 4],
+}
+
+impl Limits {
+    fn count(&mut self, limit: u64, out: &[u64; 7]) {
+        let steps = out[1];
+        if limit >> 32 != 0 {
+            self.lower += (steps > limit % (1 << 32)) as u64;
+            self.upper += (steps > limit >> 32) as u64;
+            self.signed += (limit >> 63 == 1 && steps > 0) as u64;
+        }
+        let bounds = [(1 << 32) - 1, 1 << 32, (1 << 32) + 1, u64::MAX];
+        for (many, bound) in self.bounds.iter_mut().zip(bounds) {
+            *many += (limit == bound && steps > 0) as u64;
+        }
+    }
+
+    // What was counted, how often, and how often it must be.
+    fn all(&self) -> [(&'static str, u64, u64); 7] {
+        [
+            ("more steps than the lower half of a limit from 2^32 on", self.lower, 100),
+            ("more steps than the upper half of a limit from 2^32 on", self.upper, 100),
+            ("steps under a limit from 2^63 on", self.signed, 100),
+            ("steps under the limit 2^32 - 1", self.bounds[0], 100),
+            ("steps under the limit 2^32", self.bounds[1], 100),
+            ("steps under the limit 2^32 + 1", self.bounds[2], 100),
+            ("steps under the limit 2^64 - 1", self.bounds[3], 100),
+        ]
+    }
+}
+
 // Compares a reader with the reference until a case differs.
 fn compare(reader: &mut dyn Reader, seed: u64, count: u64) -> Run {
     let mut cases = Cases::new(seed);
     let (mut ours, mut theirs) = (Result::default(), Result::default());
     let mut seen = BTreeMap::new();
-    let mut entered = Entered::default();
+    let (mut entered, mut limits) = (Entered::default(), Limits::default());
     for k in 0..count {
         cases.step();
         let c = &cases.case;
@@ -224,6 +264,7 @@ fn compare(reader: &mut dyn Reader, seed: u64, count: u64) -> Run {
         reader.read(c, &mut theirs);
         *seen.entry(ours.out[0]).or_insert(0) += 1;
         entered.count(c, ours.out[0]);
+        limits.count(c.limit, &ours.out);
         let what = if ours.out != theirs.out {
             format!("answer {:?}, expected {:?}", theirs.out, ours.out)
         } else if ours.stack != theirs.stack {
@@ -233,9 +274,9 @@ fn compare(reader: &mut dyn Reader, seed: u64, count: u64) -> Run {
         } else {
             continue;
         };
-        return Run { seen, entered, difference: Some((k, what)) };
+        return Run { seen, entered, limits, difference: Some((k, what)) };
     }
-    Run { seen, entered, difference: None }
+    Run { seen, entered, limits, difference: None }
 }
 
 fn from_environment(name: &str, default: u64) -> u64 {
@@ -290,7 +331,7 @@ fn main() {
             missing = true;
         }
     }
-    for (what, many, least) in run.entered.all() {
+    for (what, many, least) in run.entered.all().into_iter().chain(run.limits.all()) {
         let few = many < least;
         println!("{what}: {many}{}", if few { format!(", under {least} times") } else { String::new() });
         missing |= few;

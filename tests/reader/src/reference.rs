@@ -89,7 +89,7 @@ fn refusal(table: &[u16], input: &[u8], stack_len: usize) -> Option<u64> {
     None
 }
 
-pub fn parse(table: &[u16], input: &[u8], stack: &mut [u16], list: &mut [u16], step_limit: u32) -> Outcome {
+pub fn parse(table: &[u16], input: &[u8], stack: &mut [u16], list: &mut [u16], step_limit: u64) -> Outcome {
     if let Some(n) = refusal(table, input, stack.len()) {
         return Outcome { out: [n, 0, 0, 0, 0, 0, 0], high: 0 };
     }
@@ -102,7 +102,7 @@ pub fn parse(table: &[u16], input: &[u8], stack: &mut [u16], list: &mut [u16], s
 
     let mut states = vec![0u16];
     let mut reduced = Vec::new();
-    let (mut position, mut steps, mut high) = (0, 0u32, 1);
+    let (mut position, mut steps, mut high) = (0, 0, 1);
     let number = loop {
         let action = row(*states.last().unwrap())[input.get(position).copied().unwrap_or(0) as usize];
         if action == 0 {
@@ -147,7 +147,7 @@ pub fn parse(table: &[u16], input: &[u8], stack: &mut [u16], list: &mut [u16], s
     stack[..high].fill(0);
     stack[..states.len()].copy_from_slice(&states);
     list[..reduced.len()].copy_from_slice(&reduced);
-    let mut out = [number, steps as u64, states.len() as u64, reduced.len() as u64, 0, 0, 0];
+    let mut out = [number, steps, states.len() as u64, reduced.len() as u64, 0, 0, 0];
     if number == 31 {
         let expected: Vec<usize> = (0..terminals).filter(|&m| row(*states.last().unwrap())[m] != 0).collect();
         out[4] = position as u64;

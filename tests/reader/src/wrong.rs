@@ -1,7 +1,7 @@
 // A second reader, as one loop over the areas, with a switch for a deliberate fault. Without a fault
 // it is right; each fault must be found by the test.
 
-pub const FAULTS: [&str; 72] = [
+pub const FAULTS: [&str; 84] = [
     "none",
     "21: table of 4 numbers refused",
     "21 before 22",
@@ -60,6 +60,16 @@ pub const FAULTS: [&str; 72] = [
     "31: end marker not counted",
     "32: one step too many",
     "32: accept takes no step",
+    "32: limit modulo 2^32",
+    "32: limit modulo 2^48",
+    "32: limit's highest bit lost",
+    "32: limit's upper half alone",
+    "32: limit's upper half where it is not 0",
+    "32: limit's halves exchanged",
+    "32: limit as a signed number",
+    "32: limit as a signed number of 32 bits",
+    "32: limit from 2^32 on allows none",
+    "32: limit 2^64 - 1 allows none",
     "33 before 35",
     "33: one place kept free",
     "33: full stack stops every reduction",
@@ -74,6 +84,8 @@ pub const FAULTS: [&str; 72] = [
     "production + 1024 listed",
     "listed counted in 16 bits",
     "depth counted in 16 bits",
+    "steps counted in 16 bits",
+    "steps with the limit's upper half",
 ];
 
 // A table with a switch for faults: where its parts begin.
@@ -267,7 +279,26 @@ impl<'a> Table<'a> {
     }
 }
 
-pub fn parse(fault: usize, t: &[u16], input: &[u8], stack: &mut [u16], list: &mut [u16], limit: u32) -> [u64; 7] {
+// How many steps a limit allows.
+fn allowed(fault: &str, limit: u64) -> u64 {
+    let (high, low) = (limit >> 32, limit & u32::MAX as u64);
+    match fault {
+        "32: one step too many" => limit.saturating_add(1),
+        "32: limit modulo 2^32" => low,
+        "32: limit modulo 2^48" => limit % (1 << 48),
+        "32: limit's highest bit lost" => limit % (1 << 63),
+        "32: limit's upper half alone" => high,
+        "32: limit's upper half where it is not 0" if high != 0 => high,
+        "32: limit's halves exchanged" => limit.rotate_left(32),
+        "32: limit as a signed number" => (limit as i64).max(0) as u64,
+        "32: limit as a signed number of 32 bits" => (limit as i32).max(0) as u64,
+        "32: limit from 2^32 on allows none" if high != 0 => 0,
+        "32: limit 2^64 - 1 allows none" if limit == u64::MAX => 0,
+        _ => limit,
+    }
+}
+
+pub fn parse(fault: usize, t: &[u16], input: &[u8], stack: &mut [u16], list: &mut [u16], limit: u64) -> [u64; 7] {
     let is = |name: &str| FAULTS[fault] == name;
     let more = |name: &str| is(name) as usize;
     let refuse = |n: u64| [n, 0, 0, 0, 0, 0, 0];
@@ -290,13 +321,13 @@ pub fn parse(fault: usize, t: &[u16], input: &[u8], stack: &mut [u16], list: &mu
     if !is("place 0 not written") {
         stack[0] = 0;
     }
-    let (mut depth, mut listed, mut pos, mut steps, mut top) = (1, 0, 0, 0u32, 0);
-    let allowed = (limit as u64) + more("32: one step too many") as u64;
+    let (mut depth, mut listed, mut pos, mut steps, mut top) = (1, 0, 0, 0u64, 0);
+    let allowed = allowed(FAULTS[fault], limit);
     let room = stack.len() - more("33: one place kept free").min(stack.len() - 1);
     let lines = list.len() - more("34: one place too early").min(list.len());
     let end = loop {
         let a = table.cell(top, input.get(pos).copied().unwrap_or(0) as usize);
-        let out_of_steps = steps as u64 == allowed;
+        let out_of_steps = steps == allowed;
         if is("31 after 32") && out_of_steps {
             break 32;
         }
@@ -315,7 +346,7 @@ pub fn parse(fault: usize, t: &[u16], input: &[u8], stack: &mut [u16], list: &mu
             pos += 1;
             top = a;
         } else if a == 4096 {
-            steps += !is("32: accept takes no step") as u32;
+            steps += !is("32: accept takes no step") as u64;
             break 0;
         } else {
             let r = a - 1024;
@@ -364,7 +395,13 @@ pub fn parse(fault: usize, t: &[u16], input: &[u8], stack: &mut [u16], list: &mu
         list[listed..].fill(0);
     }
     let cut = |n: usize, name: &str| if is(name) { n as u16 as u64 } else { n as u64 };
-    let mut out = [end, steps as u64, 0, 0, 0, 0, 0];
+    let mut out = [end, steps, 0, 0, 0, 0, 0];
+    if is("steps counted in 16 bits") {
+        out[1] %= 1 << 16;
+    }
+    if is("steps with the limit's upper half") {
+        out[1] |= limit >> 32 << 32;
+    }
     out[2] = cut(depth, "depth counted in 16 bits");
     out[3] = cut(listed, "listed counted in 16 bits");
     if end == 31 {

@@ -100,7 +100,7 @@ pub fn parse(
     input: &[u8],
     stack: &mut [u16],
     list: &mut [u16],
-    step_limit: u32,
+    step_limit: u64,
 ) -> Outcome {
     let refused = |number| Outcome { number, ..Outcome::default() };
     let table = match table_of(table) {
@@ -133,7 +133,7 @@ pub fn parse(
             }
             break;
         }
-        if steps == step_limit as u64 {
+        if steps == step_limit {
             end.number = 32;
             break;
         }
@@ -192,7 +192,7 @@ mod tests {
         1024, 0, 0,
     ];
 
-    fn read(input: &[u8], stack: usize, list: usize, limit: u32) -> ([u64; 7], Vec<u16>) {
+    fn read(input: &[u8], stack: usize, list: usize, limit: u64) -> ([u64; 7], Vec<u16>) {
         let (mut stack, mut list) = (vec![7; stack], vec![7; list]);
         (parse(&A, input, &mut stack, &mut list, limit).out(), list)
     }
@@ -202,6 +202,7 @@ mod tests {
         let (out, list) = read(&[2, 1], 9, 9, 99);
         assert_eq!((out, &list[..3]), ([0, 5, 2, 2, 0, 0, 0], &[1, 0, 7][..]));
         assert_eq!(read(&[2, 1], 9, 9, 4).0[..2], [32, 4]);
+        assert_eq!(read(&[2, 1], 9, 9, (1 << 32) + 4).0[..2], [0, 5]);
         assert_eq!(read(&[2, 1], 2, 9, 99).0[..2], [33, 2]);
         assert_eq!(read(&[2, 1], 9, 1, 99).0[..2], [34, 3]);
         assert_eq!(read(&[], 9, 9, 99).0, [31, 0, 1, 0, 0, 4, 1]);

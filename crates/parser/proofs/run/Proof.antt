@@ -1,107 +1,120 @@
 use denote.Ref.{now}
 use borrow.Author.Needs.{needs}
-use mathlib.Core.Path.{refl, ap, _∙_}
+use mathlib.Core.Path.{ap, _∙_}
 use mathlib.Core.List.{List, _∷_}
-use Prim.Native.Nat.{ℕ, _-_, zero-le}
-use native.Mathlib.Nat.{sub-zero}
+use Prim.Native.Nat.{ℕ}
 use lib.ListN.{length-set}
 use Rattle.machine.specs.ComputedRun.{start}
 use Rattle.machine.proofs.Checked.{passed, cells-within}
-use Rattle.parser.proofs.Held.{held-start, action-within, row-in, steppable}
-use Rattle.parser.proofs.Going.{Going, stop-31, stop-32, stop-step, accept-step, falls, goes-on}
+use Rattle.parser.specs.Phases.{countBits}
+use Rattle.parser.proofs.Held.{action-within, row-in, steppable}
+use Rattle.parser.proofs.Going.{Going, going-start, countable, countable-next, stop-31, stop-32, stop-step, accept-step, falls, goes-on}
 use Rattle.parser.proofs.run.Statement.{statement}
 use Rattle.parser.proofs.run.Tie as tie
 
 abbrev Inv-loop : tie.InvT-loop
-Inv-loop table input stack₀ list₀ step-limit z cells s₀ stack list s = Going table input cells stack₀ list₀ step-limit z s₀ stack list s
+Inv-loop table input stack₀ list₀ step-limit z cells s₀ stack list s = Going table input cells stack₀ list₀ step-limit z stack list s
 
 abbrev μ-loop : tie.MeasureT-loop
-μ-loop table input stack₀ list₀ step-limit z cells s₀ stack list s = step-limit - s .steps
+μ-loop table input stack₀ list₀ step-limit z cells s₀ stack list s = s .left
 
 shape-of-requires : tie.Need-shape-of-requires Inv-loop μ-loop
-shape-of-requires c κs = (passed _ _ _ (c .before .before .before .before .pre)) .table .long
+shape-of-requires c κs = passed _ _ _ (c .before .before .before .before .pre) .table .long
 
 cells-of-requires : tie.Need-cells-of-requires Inv-loop μ-loop
-cells-of-requires c κs = cells-within ((passed _ _ _ (c .before .before .before .before .before .pre)) .table) (c .shape-of .ensures)
+cells-of-requires c κs = cells-within (passed _ _ _ (c .before .before .before .before .before .pre) .table) (c .shape-of .ensures)
 
 slice-write-stack : tie.Need-slice-write-stack Inv-loop μ-loop
-slice-write-stack c = (passed _ _ _ (c .before .before .before .before .before .before .pre)) .places
+slice-write-stack c = passed _ _ _ (c .before .before .before .before .before .before .pre) .places
 
 loop-holds : tie.Need-loop-holds Inv-loop μ-loop
-loop-holds c = record { same = rw sub-zero refl; held = held-start (now (c .before .before .before .before .before .before .args .stack)) (passed _ _ _ (c .before .before .before .before .before .before .pre)) (c .before .shape-of .ensures) (c .cells-of .ensures); most = zero-le; stacks = refl; lists = refl }
+loop-holds c = let b6 = c .before .before .before .before .before .before in going-start (now (b6 .args .stack)) _ (passed _ _ _ (b6 .pre)) (c .before .shape-of .ensures) (c .cells-of .ensures)
 
 action-requires : tie.Need-action-requires Inv-loop μ-loop
-action-requires c κs = action-within ((c .loop .inv) .held) (passed _ _ _ (c .before .before .before .before .before .before .before .pre))
+action-requires c κs = action-within (c .loop .inv .held) (passed _ _ _ (c .before .before .before .before .before .before .before .pre))
 
 no-action-requires : tie.Need-no-action-requires Inv-loop μ-loop
-no-action-requires c κs = row-in ((c .before .before .loop .inv) .held)
+no-action-requires c κs =
+    let b2 = c .before .before in
+    let r = row-in (b2 .loop .inv .held) in
+    (r .0, r .1, countable (b2 .loop .inv) countBits (b2 .before .before .before .before .before .before .before .fits .step-limit .fits))
 
 same-length : tie.Need-same-length Inv-loop μ-loop
 same-length c = c .before .before .before .loop .inv .stacks ∙ simp length-set
 
-same-length-2 : tie.Need-same-length-2 Inv-loop μ-loop
-same-length-2 c = c .before .before .before .loop .inv .lists
-
 returns : tie.Need-returns Inv-loop μ-loop
 unfolding start
-returns c = stop-31 (c .before .before .before .loop .inv) (passed _ _ _ (c .before .before .before .before .before .before .before .before .before .before .pre)) (c .before .before .action .ensures .0) (c .before .if1 .taken) (c .no-action .ensures _ _ _ ((c .before .before .before .loop .inv) .held))
+returns c =
+    let b3 = c .before .before .before in
+    stop-31 (b3 .loop .inv) (passed _ _ _ (b3 .before .before .before .before .before .before .before .pre)) (c .before .before .action .ensures .0) (c .before .if1 .taken) (c .no-action .ensures _ _ _ (b3 .loop .inv .held))
 
 count-requires : tie.Need-count-requires Inv-loop μ-loop
-count-requires c κs = search needs
+count-requires c κs = let b4 = c .before .before .before .before in countable (b4 .loop .inv) countBits (b4 .before .before .before .before .before .before .before .fits .step-limit .fits)
 
 same-length-3 : tie.Need-same-length-3 Inv-loop μ-loop
 same-length-3 c = c .before .before .before .before .before .loop .inv .stacks ∙ simp length-set
 
-same-length-4 : tie.Need-same-length-4 Inv-loop μ-loop
-same-length-4 c = c .before .before .before .before .before .loop .inv .lists
-
 returns-2 : tie.Need-returns-2 Inv-loop μ-loop
 unfolding start
-returns-2 c = stop-32 (c .before .before .before .before .before .loop .inv) (passed _ _ _ (c .before .before .before .before .before .before .before .before .before .before .before .before .pre)) (c .before .before .before .before .action .ensures .0) (c .before .before .before .if1 .left) (c .before .if2 .taken) (ap (λ (x : List ℕ). 32 ∷ x) (c .count .ensures))
+returns-2 c =
+    let b5 = c .before .before .before .before .before in
+    stop-32 (b5 .loop .inv) (passed _ _ _ (b5 .before .before .before .before .before .before .before .pre)) (c .before .before .before .before .action .ensures .0) (c .before .before .before .if1 .left) (c .before .if2 .taken) (ap (λ (x : List ℕ). 32 ∷ x) (c .count .ensures))
 
 step-requires : tie.Need-step-requires Inv-loop μ-loop
-step-requires c κs = steppable ((c .before .before .before .before .before .before .loop .inv) .held) (passed _ _ _ (c .before .before .before .before .before .before .before .before .before .before .before .before .before .pre)) (c .before .before .before .before .before .action .ensures .0) (c .before .before .before .before .before .action .ensures .1) (c .before .before .before .before .if1 .left) ((c .before .before .before .before .before .before .loop .inv) .most) (c .before .before .if2 .left) (c .before .before .before .before .before .before .before .before .before .before .before .before .before .fits .step-limit .fits)
-
-enum-known-n : tie.Need-enum-known-n Inv-loop μ-loop
-enum-known-n c = search needs
+step-requires c κs =
+    let b6 = c .before .before .before .before .before .before in
+    let a = c .before .before .before .before .before .action .ensures in
+    steppable (b6 .loop .inv .held) (passed _ _ _ (b6 .before .before .before .before .before .before .before .pre)) (a .0) (a .1) (c .before .before .before .before .if1 .left) (c .before .before .if2 .left)
 
 stopped-requires : tie.Need-stopped-requires Inv-loop μ-loop
-stopped-requires c κs = search needs
+stopped-requires c κs =
+    let b7 = c .before .before .before .before .before .before .before in
+    let b14 = b7 .before .before .before .before .before .before .before in
+    countable (b14 .loop .inv) countBits (b14 .before .before .before .before .before .before .before .fits .step-limit .fits)
 
 same-length-5 : tie.Need-same-length-5 Inv-loop μ-loop
-same-length-5 c = c .before .before .before .before .before .before .before .before .step .kept .1 .1 .0 ∙ c .before .before .before .before .before .before .before .before .before .before .before .before .before .before .before .loop .inv .stacks ∙ simp length-set
+same-length-5 c = let b8 = c .before .before .before .before .before .before .before .before in b8 .step .kept .1 .1 .0 ∙ b8 .before .before .before .before .before .before .before .loop .inv .stacks ∙ simp length-set
 
 same-length-6 : tie.Need-same-length-6 Inv-loop μ-loop
-same-length-6 c = c .before .before .before .before .before .before .before .before .step .kept .1 .1 .1 .0 ∙ c .before .before .before .before .before .before .before .before .before .before .before .before .before .before .before .loop .inv .lists
+same-length-6 c = let b8 = c .before .before .before .before .before .before .before .before in b8 .step .kept .1 .1 .1 .0 ∙ b8 .before .before .before .before .before .before .before .loop .inv .lists
 
 returns-3 : tie.Need-returns-3 Inv-loop μ-loop
 unfolding start
-returns-3 c = stop-step (c .before .before .before .before .before .before .before .before .before .before .before .before .before .before .before .loop .inv) (passed _ _ _ (c .before .before .before .before .before .before .before .before .before .before .before .before .before .before .before .before .before .before .before .before .before .before .pre)) (c .before .before .before .before .before .before .before .before .before .before .before .before .before .before .action .ensures .0) (c .before .before .before .before .before .before .before .before .before .before .before .before .before .if1 .left) (c .before .before .before .before .before .before .before .before .before .before .before .if2 .left) (rw (c .before .before .n .given .1) at (c .before .before .before .before .before .before .before .before .step .ensures)) (c .stopped .ensures)
-
-enum-known-n-2 : tie.Need-enum-known-n-2 Inv-loop μ-loop
-enum-known-n-2 c = search needs
+returns-3 c =
+    let b8 = c .before .before .before .before .before .before .before .before in
+    let b15 = b8 .before .before .before .before .before .before .before in
+    stop-step (b15 .loop .inv) (passed _ _ _ (b15 .before .before .before .before .before .before .before .pre)) (b8 .before .before .before .before .before .before .action .ensures .0) (b8 .before .before .before .before .before .if1 .left) (b8 .before .before .before .if2 .left) (rw (c .before .before .n .given .1) at (b8 .step .ensures)) (c .stopped .ensures)
 
 loop-less : tie.Need-loop-less Inv-loop μ-loop
-loop-less c = falls (c .before .before .before .before .before .before .before .before .before .before .before .before .before .before .loop .inv) (passed _ _ _ (c .before .before .before .before .before .before .before .before .before .before .before .before .before .before .before .before .before .before .before .before .before .pre)) (c .before .before .before .before .before .before .before .before .before .before .before .before .before .action .ensures .0) (c .before .before .before .before .before .before .before .before .before .before .before .before .if1 .left) (c .before .before .before .before .before .before .before .before .before .before .if2 .left) (rw (c .before .n2 .given .1) at (c .before .before .before .before .before .before .before .step .ensures))
+loop-less c =
+    let b7 = c .before .before .before .before .before .before .before in
+    let b14 = b7 .before .before .before .before .before .before .before in
+    falls (b14 .loop .inv) (passed _ _ _ (b14 .before .before .before .before .before .before .before .pre)) (b7 .before .before .before .before .before .before .action .ensures .0) (b7 .before .before .before .before .before .if1 .left) (b7 .before .before .before .if2 .left) (rw (c .before .n2 .given .1) at (b7 .step .ensures))
 
 loop-again : tie.Need-loop-again Inv-loop μ-loop
-loop-again c = goes-on (c .before .before .before .before .before .before .before .before .before .before .before .before .before .before .loop .inv) (passed _ _ _ (c .before .before .before .before .before .before .before .before .before .before .before .before .before .before .before .before .before .before .before .before .before .pre)) (c .before .before .before .before .before .before .before .before .before .before .before .before .before .action .ensures .0) (c .before .before .before .before .before .before .before .before .before .before .before .before .if1 .left) (c .before .before .before .before .before .before .before .before .before .before .if2 .left) (rw (c .before .n2 .given .1) at (c .before .before .before .before .before .before .before .step .ensures)) (c .before .before .before .before .before .before .before .step .kept .1 .1 .0) (c .before .before .before .before .before .before .before .step .kept .1 .1 .1 .0)
+loop-again c =
+    let b7 = c .before .before .before .before .before .before .before in
+    let b14 = b7 .before .before .before .before .before .before .before in
+    goes-on (b14 .loop .inv) (passed _ _ _ (b14 .before .before .before .before .before .before .before .pre)) (b7 .before .before .before .before .before .before .action .ensures .0) (b7 .before .before .before .before .before .if1 .left) (b7 .before .before .before .if2 .left) (rw (c .before .n2 .given .1) at (b7 .step .ensures)) (b7 .step .kept .1 .1 .0) (b7 .step .kept .1 .1 .1 .0)
 
-enum-known-n-3 : tie.Need-enum-known-n-3 Inv-loop μ-loop
-enum-known-n-3 c = search needs
-
-count-requires-2 : tie.Need-count-requires-2 Inv-loop μ-loop
-count-requires-2 c κs = search needs
+accepted-requires : tie.Need-accepted-requires Inv-loop μ-loop
+accepted-requires c κs =
+    let b6 = c .before .before .before .before .before .before in
+    let b13 = b6 .before .before .before .before .before .before .before in
+    countable-next (b13 .loop .inv) countBits (b13 .before .before .before .before .before .before .before .fits .step-limit .fits) (b6 .before .before .before .if2 .left)
 
 same-length-7 : tie.Need-same-length-7 Inv-loop μ-loop
-same-length-7 c = c .before .before .before .before .before .before .before .before .step .kept .1 .1 .0 ∙ c .before .before .before .before .before .before .before .before .before .before .before .before .before .before .before .loop .inv .stacks ∙ simp length-set
+same-length-7 c = let b7 = c .before .before .before .before .before .before .before in b7 .step .kept .1 .1 .0 ∙ b7 .before .before .before .before .before .before .before .loop .inv .stacks ∙ simp length-set
 
 same-length-8 : tie.Need-same-length-8 Inv-loop μ-loop
-same-length-8 c = c .before .before .before .before .before .before .before .before .step .kept .1 .1 .1 .0 ∙ c .before .before .before .before .before .before .before .before .before .before .before .before .before .before .before .loop .inv .lists
+same-length-8 c = let b7 = c .before .before .before .before .before .before .before in b7 .step .kept .1 .1 .1 .0 ∙ b7 .before .before .before .before .before .before .before .loop .inv .lists
 
 returns-4 : tie.Need-returns-4 Inv-loop μ-loop
 unfolding start
-returns-4 c = accept-step (c .before .before .before .before .before .before .before .before .before .before .before .before .before .before .before .loop .inv) (passed _ _ _ (c .before .before .before .before .before .before .before .before .before .before .before .before .before .before .before .before .before .before .before .before .before .before .pre)) (c .before .before .before .before .before .before .before .before .before .before .before .before .before .before .action .ensures .0) (c .before .before .before .before .before .before .before .before .before .before .before .before .before .if1 .left) (c .before .before .before .before .before .before .before .before .before .before .before .if2 .left) (rw (c .before .before .n3 .given .1) at (c .before .before .before .before .before .before .before .before .step .ensures)) (ap (λ (x : List ℕ). 0 ∷ x) (c .count2 .ensures))
+returns-4 c =
+    let b7 = c .before .before .before .before .before .before .before in
+    let b14 = b7 .before .before .before .before .before .before .before in
+    accept-step (b14 .loop .inv) (passed _ _ _ (b14 .before .before .before .before .before .before .before .pre)) (b7 .before .before .before .before .before .before .action .ensures .0) (b7 .before .before .before .before .before .if1 .left) (b7 .before .before .before .if2 .left) (rw (c .before .enum-told .given .1) at (b7 .step .ensures)) (c .accepted .ensures)
 
 pub run-spec : {M : Type 1} → statement M
 run-spec =
@@ -116,23 +129,23 @@ run-spec =
     action-requires
     no-action-requires
     same-length
-    same-length-2
+    (λ c. c .before .before .before .loop .inv .lists)
     returns
     count-requires
     same-length-3
-    same-length-4
+    (λ c. c .before .before .before .before .before .loop .inv .lists)
     returns-2
     step-requires
-    enum-known-n
+    (λ c. search needs)
     stopped-requires
     same-length-5
     same-length-6
     returns-3
-    enum-known-n-2
+    (λ c. search needs)
     loop-less
     loop-again
-    enum-known-n-3
-    count-requires-2
+    (λ c. search needs)
+    accepted-requires
     same-length-7
     same-length-8
     returns-4)

@@ -3,12 +3,9 @@ use Rattle.sets.specs.Lists.{covered}
 use Rattle.parser_c.proofs.end.Statement.{statement}
 use Rattle.parser_c.proofs.end.Tie as tie
 
-cast-t3 : tie.Need-cast-t3
-cast-t3 c = search needs
-
 returns : tie.Need-returns
 unfolding covered
 returns c = search needs
 
 pub end-spec : {M : Type 1} → statement M
-end-spec = tie.close (tie.spec cast-t3 returns)
+end-spec = tie.close (tie.spec returns)

@@ -46,8 +46,8 @@ add-t22 c = search needs
 add-t26 : tie.Need-add-t26
 add-t26 c = search needs
 
-add-t27 : tie.Need-add-t27
-add-t27 c = search needs
+sub-t27 : tie.Need-sub-t27
+sub-t27 c = search needs
 
 cast-t28 : tie.Need-cast-t28
 cast-t28 c = search needs
@@ -82,7 +82,7 @@ reduce-from-spec =
     slice-write-list
     add-t22
     add-t26
-    add-t27
+    sub-t27
     cast-t28
     same-length
     same-length-2

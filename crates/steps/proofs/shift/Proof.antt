@@ -1,50 +1,26 @@
-use mathlib.Core.Path.{refl}
-use borrow.Author.Tests.{lt-ltb, le-ltb}
-use Rattle.machine.specs.ComputedRun.{shifted}
-use Rattle.steps.proofs.Kept.{kept-shift}
+use mathlib.Core.Path.{sym}
+use Rattle.machine.proofs.RunLaws.{shifted-full}
+use Rattle.steps.proofs.Kept.{shift-goes}
 use borrow.Author.Needs.{needs}
 use Rattle.steps.proofs.shift.Statement.{statement}
 use Rattle.steps.proofs.shift.Tie as tie
 
-cast-stack : tie.Need-cast-stack
-cast-stack c = search needs
-
-mul-stack : tie.Need-mul-stack
-mul-stack c = search needs
-
-slice-write-stack : tie.Need-slice-write-stack
-slice-write-stack c = search needs
-
-add-t9 : tie.Need-add-t9
-add-t9 c = search needs
-
-add-t11 : tie.Need-add-t11
-add-t11 c = search needs
-
-add-t12 : tie.Need-add-t12
-add-t12 c = search needs
-
-same-length : tie.Need-same-length
-same-length c = search needs
-
 returns : tie.Need-returns
-unfolding shifted
-returns c = λ t cs li z h b. record { next = rw (lt-ltb _ _ (c .before .before .if1 .taken)); held = (kept-shift h (c .before .before .before .args .a) b (c .before .before .if1 .taken), refl) }
+returns c = let b = c .before .before .before .pre in λ t cs li z h k. shift-goes h (b .2) (c .before .before .before .args .a) k (b .1) (c .before .before .if1 .taken)
 
 returns-2 : tie.Need-returns-2
-unfolding shifted
-returns-2 c = λ t cs li z h b. record { next = rw (le-ltb _ _ (c .if1 .left)); held = tt }
+returns-2 c = λ t cs li z h k. record { next = sym (shifted-full _ _ (c .if1 .left)); held = tt }
 
 pub shift-spec : {M : Type 1} → statement M
 shift-spec =
     tie.close
     (tie.spec
-    cast-stack
-    mul-stack
-    slice-write-stack
-    add-t9
-    add-t11
-    add-t12
-    same-length
+    (λ c. search needs)
+    (λ c. search needs)
+    (λ c. search needs)
+    (λ c. search needs)
+    (λ c. search needs)
+    (λ c. search needs)
+    (λ c. search needs)
     returns
     returns-2)

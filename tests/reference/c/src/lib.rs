@@ -45,7 +45,7 @@ pub unsafe extern "C" fn sidumza_parse(
     stack_len: usize,
     list: *mut u16,
     list_len: usize,
-    step_limit: u32,
+    step_limit: u64,
     out: *mut u64,
 ) {
     let outcome = reference::parser::parse(
