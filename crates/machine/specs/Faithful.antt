@@ -1,6 +1,6 @@
 -- Demand 2 for the reader: a reading that is not refused makes the steps of the LR machine, each end comes only where the paper has it come,
 -- and the report and both areas are then those of the machine: `faithful` and `only-reading` of proofs/ReadsLaws.antt.
-use Prim.Native.Nat.{ℕ, suc, _+_, _<_, _≤_}
+use Prim.Native.Nat.{ℕ, _+_, _<_, _≤_}
 use mathlib.Core.Path.{_≡_}
 use mathlib.Core.Logic.{_≢_, _↔_}
 use mathlib.Core.List.{List, [], _∷_, _++_, reverse}
@@ -8,23 +8,9 @@ use lib.ListN.{length, drop}
 use Rattle.sets.specs.Bit.{bit, count, Has}
 use Rattle.sets.specs.Lists.{covered}
 use Rattle.tables.specs.Layout.{terminals, cellOf}
-use Rattle.machine.specs.LrMachine.{Config, conf, depth, listed, Reduces, Step, Path, Ends, own-steps}
+use Rattle.machine.specs.LrMachine.{Config, conf, depth, listed, Path, own-steps}
+pub use Rattle.machine.specs.Stops.{Allowed, Stops, accepted-here, wrong-here, no-steps, list-full, broken-here, stack-full}
 use Rattle.machine.specs.Report.{Report, ended, wrong-at, Reading}
-
--- what a reading may still use: steps, and all places of the stack area and of the list area
-pub record Allowed : Type 0 where
-  pub steps : ℕ
-  pub stack : ℕ
-  pub list : ℕ
-
--- why the machine stops at a configuration, with the number of the end: "tested in this order before a move" are 31, 32, 34, 35, 33
-pub data Stops (t : List ℕ) (a : Allowed) (c : Config) : ℕ → Type 0 where
-  accepted-here : Ends t c 0 → 0 < a .steps → Stops t a c 0
-  wrong-here : Ends t c 31 → Stops t a c 31
-  no-steps : (Ends t c 31 → ⊥) → a .steps ≡ 0 → Stops t a c 32
-  list-full : {r : ℕ} → Reduces t r c → 0 < a .steps → listed c ≡ a .list → Stops t a c 34
-  broken-here : Ends t c 35 → 0 < a .steps → listed c < a .list → Stops t a c 35
-  stack-full : {c′ : Config} → Step t c c′ → 0 < a .steps → listed c′ ≤ a .list → depth c′ ≡ suc (a .stack) → Stops t a c 33
 
 -- "the offer: a word with the bits of the marks whose cell in the top row is not 0, and how many they are"
 pub record Offer (t : List ℕ) (q word size : ℕ) : Type 0 where

@@ -1,0 +1,73 @@
+// One step of the reader's machine on a stack area alone: no production is listed, and a place popped keeps its number.
+use tables::Shape;
+ghost use mathlib.Core.List.{List};
+ghost use Prim.Native.Nat.{ℕ, _<_, _^_};
+ghost use Rattle.tables.specs.Layout.{states, productions};
+ghost use Rattle.unlisted_steps.specs.Spot.{Readable, Stands, Standing, Shifts, Reduces};
+
+// The stack places in use, how many steps may still be made, and the state on top.
+pub struct Spot {
+    pub depth: usize,
+    pub left: u64,
+    pub top: usize,
+}
+
+// The spot after a step, or why it cannot be made: no place is left, or the reduction would pop state 0 or leads to none.
+pub enum Next {
+    Moved(Spot),
+    Full,
+    Broken,
+}
+
+// The shift to state a.
+pub fn shift(second: &mut [u16], s: Spot, a: usize) -> Next
+    requires { ⌜ (a < 2 ^ 16) × (0 < s .left) ⌝ }
+    ensures { λ x. ⌜ ((t : List ℕ) (q : ℕ) (qs : List ℕ) → Stands t (now (second .entry)) s q qs → a < states t → Shifts t (now (second .exit)) s q qs a x) ⌝ }
+{
+    let at = s.depth;
+    if at < second.len() {
+        second[at] = a as u16;
+        Next::Moved(Spot {
+            depth: at + 1,
+            left: s.left - 1,
+            top: a,
+        })
+    } else {
+        Next::Full
+    }
+}
+
+// The reduction by production r.
+pub fn reduce(
+    table: &[u16],
+    cells: &[u16],
+    second: &mut [u16],
+    z: Shape,
+    s: Spot,
+    r: usize,
+) -> Next
+    requires { ⌜ (Readable (now table) (now cells) z) × (Standing (now table) (now second) s) × (r < productions (now table)) × (0 < s .left) ⌝ }
+    ensures { λ x. ⌜ ((q : ℕ) (qs : List ℕ) → Stands (now (table .entry)) (now (second .entry)) s q qs → Reduces (now (table .entry)) (now (second .exit)) s q qs r x) ⌝ }
+{
+    let n = tables::length_of(table, z, r) as usize;
+    if s.depth <= n {
+        return Next::Broken;
+    }
+    let d = s.depth - n;
+    let under = second[d - 1] as usize;
+    let left = tables::left(table, r) as usize;
+    let q = tables::cell_at(cells, under * z.width, left);
+    if q == 0 {
+        return Next::Broken;
+    }
+    if d < second.len() {
+        second[d] = q;
+        Next::Moved(Spot {
+            depth: d + 1,
+            left: s.left - 1,
+            top: q as usize,
+        })
+    } else {
+        Next::Full
+    }
+}
