@@ -64,7 +64,7 @@ module _ (t l : List ℕ) (n : ℕ) (pa : Passed t l n) where
   step-sound (sound i b e) (Step.shift s ec h k) = sound (i + 1) (after-shift pa b i e ec h k) (sym (rest-drop i l) ∙ ap rest e)
   step-sound (sound i b e) (Step.reduce r p ps s ec ne d f h) = sound i (after-reduce pa b i e r ec ne d f) e
 
-  path-sound : {k m : ℕ} {c c′ : Config} → Sound t l c → Path t k m c c′ → Sound t l c′
+  pub path-sound : {k m : ℕ} {c c′ : Config} → Sound t l c → Path t k m c c′ → Sound t l c′
   path-sound s Path.none = s
   path-sound s (Path.more x p) = path-sound (step-sound s x) p
 
