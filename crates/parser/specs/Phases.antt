@@ -1,12 +1,17 @@
 -- What the parts of a reading hand on to each other. Only private functions cite this.
-use Prim.Native.Nat.{ℕ, _+_, _^_, _<_}
+use Prim.Native.Nat.{ℕ, _+_, _^_, _<_, _≤_}
 use mathlib.Core.Path.{_≡_}
+use mathlib.Core.Logic.{_≢_}
 use mathlib.Core.List.{List, [], _∷_}
+use lib.ListN.{length}
 use Rattle.machine.specs.Report.{numbersOf}
-use Rattle.machine.specs.ComputedRun.{Outcome, reportOf}
+use Rattle.machine.specs.ComputedRun.{Machine, Outcome, endedAt}
 use Rattle.steps.specs.declared.State.{State}
+use Rattle.parser.specs.declared.Counts.{Counts}
 use Rattle.parser.specs.declared.Answer.{Answer}
-use Rattle.parser.specs.Answer.{numbers}
+use Rattle.parser.specs.declared.Ending.{Ending}
+use Rattle.parser.specs.declared.Ending.the-variants.{Final, Wrong}
+use Rattle.parser.specs.Answer.{countsOf, numbers}
 
 -- what an end at a state carries
 abbrev pub reached : State → List ℕ
@@ -24,8 +29,19 @@ countBits = 64
 abbrev pub Countable : ℕ → State → Type 0
 Countable w s = s .position + s .listed < 2 ^ w
 
--- the answer and both areas at exit are those of an outcome of the machine
-pub record Ends (t : List ℕ) (o : Outcome) (r : Answer) (st li : List ℕ) : Type 0 where
-  pub answer : numbers r ≡ numbersOf (reportOf t o)
+-- the counts and the position are those of a machine
+pub record At (m : Machine) (position : ℕ) (c : Counts) : Type 0 where
+  pub counted : countsOf c ≡ m .steps ∷ m .depth ∷ m .listed ∷ []
+  pub place : position ≡ m .position
+
+-- an ending is that of an outcome of the machine
+pub data Says (o : Outcome) : Ending → Type 0 where
+  final : {r : Answer} → o .number ≢ 31 → numbers r ≡ numbersOf (endedAt (o .number) (o .final)) → Says o (Final r)
+  wrong : {position : ℕ} {c : Counts} → o .number ≡ 31 → At (o .final) position c → Says o (Wrong position c)
+
+-- so are both areas at exit, and the position is one of the input
+pub record Ends (o : Outcome) (l : List ℕ) (e : Ending) (st li : List ℕ) : Type 0 where
+  pub says : Says o e
   pub stack : st ≡ o .final .stack
   pub list : li ≡ o .final .list
+  pub within : o .final .position ≤ length l

@@ -1,20 +1,22 @@
 // Runs a parse table over an input.
+use exploration::Expected;
 use steps::Next;
 use steps::State;
 use steps::Stop;
 use table_checks::Refusal;
 use table_checks::Verdict;
-use tables::Shape;
 ghost use mathlib.Core.Path.{_≡_};
-ghost use mathlib.Core.List.{List, _∷_};
-ghost use Prim.Native.Nat.{ℕ, _+_, _*_, _^_, _<_, _≤_};
-ghost use lib.ListN.{length};
-ghost use Rattle.machine.specs.Checks.{refusalOf};
+ghost use mathlib.Core.Bool.{true};
+ghost use mathlib.Core.List.{_∷_};
+ghost use Prim.Native.Nat.{_+_, _^_, _<_, _≤_};
+ghost use lib.ListN.{length, replicate};
+ghost use Rattle.machine.specs.Checks.{inputOk, refusalOf};
 ghost use Rattle.machine.specs.Report.{numbersOf};
-ghost use Rattle.machine.specs.ComputedRun.{run as runs, start, wrongAt, reading};
-ghost use Rattle.steps.specs.State.{machineOf, stopNumber, Held};
+ghost use Rattle.machine.specs.ComputedRun.{Machine, run as runs, start, wrongAt, readingOf, reading};
+ghost use Rattle.machine.proofs.Checked.{Checked, Passed};
+ghost use Rattle.steps.specs.State.{stopNumber};
 ghost use Rattle.parser.specs.Answer.{countsOf, numbers, ReadsAs};
-ghost use Rattle.parser.specs.Phases.{reached, acceptedAt, countBits, Countable, Ends};
+ghost use Rattle.parser.specs.Phases.{reached, acceptedAt, countBits, Countable, Ends, At};
 ghost use Rattle.parser.specs.Terminals.{Lists};
 
 // The steps made, the stack places in use and the productions listed.
@@ -28,11 +30,16 @@ pub struct Counts {
 pub enum Answer {
     Refused(Refusal),
     Accepted(Counts),
-    // No action for the terminal at a position, with the expected set and its size.
+    // No action for the terminal at a position, with the expected set, the terminals that can follow, and its size.
     NoAction {
         position: usize,
         expected: u64,
         size: u32,
+        counts: Counts,
+    },
+    // No action either, but a fresh reading was cut short: which terminals can follow is not known.
+    Unexplored {
+        position: usize,
         counts: Counts,
     },
     StepLimit(Counts),
@@ -40,6 +47,12 @@ pub enum Answer {
     ListFull(Counts),
     // A reduction that no table of the maker asks for.
     Broken(Counts),
+}
+
+// How a run ends: with its answer, or at a position with no action, where the expected set is yet to be found.
+enum Ending {
+    Final(Answer),
+    Wrong(usize, Counts),
 }
 
 fn count(s: State) -> Counts
@@ -50,21 +63,6 @@ fn count(s: State) -> Counts
         steps: (s.position + s.listed) as u64,
         depth: s.depth,
         listed: s.listed,
-    }
-}
-
-fn no_action(cells: &[u16], z: Shape, s: State) -> Answer
-    requires { ⌜ (z .terminals ≤ 64) × (s .top * z .width + z .terminals ≤ length (now cells)) × (Countable countBits s) ⌝ }
-    ensures { λ r. ⌜ ((t st li : List ℕ) → Held t (now (cells .entry)) st li z s → numbers r ≡ numbersOf (wrongAt t (machineOf st li s))) ⌝ }
-{
-    let word = steps::expected(cells, z, s.top);
-    let n = sets::size(word);
-    let c = count(s);
-    Answer::NoAction {
-        position: s.position,
-        expected: word,
-        size: n,
-        counts: c,
     }
 }
 
@@ -92,10 +90,10 @@ fn accepted(s: State) -> Answer
     })
 }
 
-// The reading of an input by a table, both checked.
-fn run(table: &[u16], input: &[u8], stack: &mut [u16], list: &mut [u16], step_limit: u64) -> Answer
-    requires { ⌜ refusalOf (now table) (now input) (length (now stack)) ≡ 0 ⌝ }
-    ensures { λ r. ⌜ Ends (now (table .entry)) (runs (now (table .entry)) (now (input .entry)) «step_limit» (start (now (stack .entry)) (now (list .entry)))) r (now (stack .exit)) (now (list .exit)) ⌝ }
+// The run over an input by a table, both checked.
+fn run(table: &[u16], input: &[u8], stack: &mut [u16], list: &mut [u16], step_limit: u64) -> Ending
+    requires { ⌜ (Passed (now table) (now input) (length (now stack))) × (length (now input) ≤ 65535) ⌝ }
+    ensures { λ r. ⌜ Ends (runs (now (table .entry)) (now (input .entry)) «step_limit» (start (now (stack .entry)) (now (list .entry)))) r (now (stack .exit)) (now (list .exit)) ⌝ }
 {
     let z = tables::shape_of(table);
     let cells = tables::cells_of(table, z);
@@ -110,24 +108,67 @@ fn run(table: &[u16], input: &[u8], stack: &mut [u16], list: &mut [u16], step_li
     loop {
         let a = steps::action(cells, input, z, s);
         if a == 0 {
-            return no_action(cells, z, s);
+            return Ending::Wrong(s.position, count(s));
         }
         if s.left == 0 {
-            return Answer::StepLimit(count(s));
+            return Ending::Final(Answer::StepLimit(count(s)));
         }
         let n = steps::step(table, cells, stack, list, z, s, a);
         match n {
             Next::Ended(e) => {
-                return stopped(e, s);
+                return Ending::Final(stopped(e, s));
             }
             Next::Moved(t) => {
                 s = t;
             }
             Next::Accepted => {
-                return accepted(s);
+                return Ending::Final(accepted(s));
             }
         }
     }
+}
+
+// The answer for a wrong terminal at a position: the terminals that can follow the input before it.
+fn explored(table: &[u16], input: &[u8], second: &mut [u16], step_limit: u64, position: usize, counts: Counts) -> Answer
+    requires { ⌜ (Checked (now table)) × (inputOk (now table) (now input) ≡ true) × (0 < length (now second)) × (position ≤ length (now input)) ⌝ }
+    ensures { λ r. ⌜ ((m : Machine) → At m position counts → numbers r ≡ numbersOf (wrongAt (now (table .entry)) (now (input .entry)) «step_limit» (length (now (second .entry))) m)) ⌝ }
+{
+    let e = exploration::explore(table, &input[..position], second, step_limit);
+    match e {
+        Expected::Known(word) => {
+            let n = sets::size(word);
+            Answer::NoAction {
+                position,
+                expected: word,
+                size: n,
+                counts,
+            }
+        }
+        Expected::Cut => Answer::Unexplored { position, counts },
+    }
+}
+
+fn clear(second: &mut [u16])
+    ensures { λ _. ⌜ now (second .exit) ≡ replicate (length (now (second .entry))) 0 ⌝ }
+{
+    let mut i: usize = 0;
+    while i < second.len() {
+        second[i] = 0;
+        i += 1;
+    }
+}
+
+// The answer of a run that has ended; the second area is cleared.
+fn answer(table: &[u16], input: &[u8], second: &mut [u16], step_limit: u64, e: Ending) -> Answer
+{
+    let a = match e {
+        Ending::Final(a) => a,
+        Ending::Wrong(position, counts) => {
+            explored(table, input, second, step_limit, position, counts)
+        }
+    };
+    clear(second);
+    a
 }
 
 // Reads an input by a table: every input is answered, and a refusal changes nothing.
@@ -136,14 +177,18 @@ pub fn parse(
     input: &[u8],
     stack: &mut [u16],
     list: &mut [u16],
+    second: &mut [u16],
     step_limit: u64,
 ) -> Answer
-    ensures { λ r. ⌜ ReadsAs (reading (now (table .entry)) (now (input .entry)) (now (stack .entry)) (now (list .entry)) «step_limit») r (now (stack .exit)) (now (list .exit)) ⌝ }
+    ensures { λ r. ⌜ ReadsAs (reading (now (table .entry)) (now (input .entry)) (now (stack .entry)) (now (list .entry)) (now (second .entry)) «step_limit») r (now (stack .exit)) (now (list .exit)) (now (second .exit)) ⌝ }
 {
-    let v = table_checks::check(table, input, stack.len());
+    let v = table_checks::check(table, input, stack.len(), second.len());
     match v {
         Verdict::Refused(e) => Answer::Refused(e),
-        Verdict::Passed => run(table, input, stack, list, step_limit),
+        Verdict::Passed => {
+            let e = run(table, input, stack, list, step_limit);
+            answer(table, input, second, step_limit, e)
+        }
     }
 }
 
