@@ -89,6 +89,22 @@ module _ {t l st li : List ℕ} (a k : ℕ) (pa : Passed t l (length st)) (place
   report-is (held h) (expects line word e o) = wrong-is h line e word o
   report-is (held h) (unknown line e c) = cut-is h line e c
 
+-- ---- a run ends within its input
+
+pub ends-within : (t l st li : List ℕ) (a : ℕ) → Passed t l (length st) → run t l a (start st li) .final .position ≤ length l
+ends-within t l st li a pa = go (settles t (length st) (length li) a 0 [] l [] (pa .places) (omega arith))
+  where
+    at-last : {n most left i : ℕ} {c : Config} {m : Machine} → Held t l st li n most m c → Stops t (record { steps = left; stack = length st; list = length li }) c i
+        → run t l a (start st li) ≡ run t l left m → run t l a (start st li) .final .position ≤ length l
+    at-last {i = i} {m = m} (held h) why e =
+        let k = ap (λ (z : Machine). z .position) (counted i m) in
+        rw (e ∙ ends-at pa h why) (omega (arith, h .place, k))
+
+    go : Settled t (length st) (length li) a (conf (0 ∷ []) l []) → run t l a (start st li) .final .position ≤ length l
+    go s =
+        let w = follows pa (s .path) (held-start st li pa) (omega (arith, s .within, pa .places)) (s .fits) in
+        at-last (w .holds) (s .why) (rw (s .budget) at (w .runs (s .left)))
+
 -- ---- a faithful reading is the computed one
 
 same-reading : {r : Reading} {p : Report} {s l z : List ℕ} → r .report ≡ p → r .stack ≡ s → r .list ≡ l → r .second ≡ z → r ≡ record { report = p; stack = s; list = l; second = z }

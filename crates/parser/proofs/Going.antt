@@ -1,13 +1,12 @@
 -- What the loop of `run` keeps, and the laws of its ways out, in the values that the code has.
 use mathlib.Core.Path.{_≡_, refl, sym, ap, subst, _∙_}
-use mathlib.Core.Bool.{false}
+use mathlib.Core.Logic.{_≢_}
 use mathlib.Core.List.{List, _∷_}
 use Prim.Native.Nat.{ℕ, _+_, _-_, _*_, _^_, _<_}
 use native.Mathlib.Omega.{arith}
 use lib.ListN.{length, getD, set, drop}
-use lib.Dec.{eqb}
 use Rattle.machine.specs.Report.{numbersOf}
-use Rattle.machine.specs.ComputedRun.{Machine, Next, actionOf, movedBy, Outcome, after, run, endedAt, wrongAt, reportOf}
+use Rattle.machine.specs.ComputedRun.{Machine, Next, actionOf, movedBy, Outcome, after, run, endedAt}
 use Rattle.machine.proofs.RunLaws.{run-wrong, run-none, run-more}
 use Rattle.tables.specs.Shape.{Shaped}
 use Rattle.tables.specs.declared.Shape.{Shape}
@@ -17,9 +16,11 @@ use Rattle.steps.specs.declared.Stop.{Stop}
 use Rattle.steps.specs.declared.Stop.the-variants.{StackFull, ListFull, Broken}
 use Rattle.steps.specs.declared.Next.the-variants.{Ended, Moved, Accepted}
 use Rattle.steps.specs.declared.State.{State}
-use Rattle.parser.specs.Answer.{numbers}
-use Rattle.parser.specs.Phases.{reached, acceptedAt, Countable, Ends}
+use Rattle.parser.specs.Answer.{countsOf, numbers}
+use Rattle.parser.specs.Phases.{reached, acceptedAt, Countable, At, final, wrong, Ends}
+use Rattle.parser.specs.declared.Counts.{Counts}
 use Rattle.parser.specs.declared.Answer.{Answer}
+use Rattle.parser.specs.declared.Ending.the-variants.{Final, Wrong}
 use Rattle.parser.proofs.Held.{held-start, action-is}
 
 -- the machine as the loop starts, with state 0 on the stack
@@ -47,33 +48,29 @@ module _ {t l cs st₀ li₀ st li : List ℕ} {a : ℕ} {z : Shape} {s : State}
   pub countable-next : (s .left ≡ 0 → ⊥) → s .position + s .listed + 1 < 2 ^ w
   countable-next more = omega (arith, g .spent, more)
 
-module _ {t : List ℕ} {r : Answer} where
-  ends-31 : (m : Machine) (o : Outcome) → record { number = 31; final = m } ≡ o → numbers r ≡ numbersOf (wrongAt t m) → Ends t o r (m .stack) (m .list)
-  unfolding reportOf
-  ends-31 m o e h = subst (λ (o : Outcome). Ends t o r (m .stack) (m .list)) e (record { answer = h; stack = refl; list = refl })
+ends-31 : {position : ℕ} {c : Counts} (m : Machine) (o : Outcome) → record { number = 31; final = m } ≡ o → At m position c → Ends o (Wrong position c) (m .stack) (m .list)
+ends-31 {position} {c} m o e h = subst (λ (o : Outcome). Ends o (Wrong position c) (m .stack) (m .list)) e (record { says = wrong refl h; stack = refl; list = refl })
 
-  ends-else : (n : ℕ) (m : Machine) (o : Outcome) → eqb n 31 ≡ false → record { number = n; final = m } ≡ o → numbers r ≡ numbersOf (endedAt n m) → Ends t o r (m .stack) (m .list)
-  unfolding reportOf
-  ends-else n m o d e h =
-      subst (λ (o : Outcome). Ends t o r (m .stack) (m .list)) e (record { answer = rw d h; stack = refl; list = refl })
+ends-else : {r : Answer} (n : ℕ) (m : Machine) (o : Outcome) → n ≢ 31 → record { number = n; final = m } ≡ o → numbers r ≡ numbersOf (endedAt n m) → Ends o (Final r) (m .stack) (m .list)
+ends-else {r} n m o d e h = subst (λ (o : Outcome). Ends o (Final r) (m .stack) (m .list)) e (record { says = final d h; stack = refl; list = refl })
 
-stop-number : (e : Stop) → eqb (stopNumber e) 31 ≡ false
-stop-number StackFull = refl
-stop-number ListFull = refl
-stop-number Broken = refl
+stop-number : (e : Stop) → stopNumber e ≢ 31
+stop-number StackFull z = omega arith
+stop-number ListFull z = omega arith
+stop-number Broken z = omega arith
 
 module _ {t l cs st₀ li₀ : List ℕ} {a : ℕ} {z : Shape} {st li : List ℕ} {s : State} (g : Going t l cs st₀ li₀ a z st li s) {n : ℕ} (p : Passed t l n)
     {x : ℕ} (ex : x ≡ getD cs (getD l (s .position) 0 + s .top * z .width) 0) where
   act : x ≡ actionOf t l (machineOf st li s)
   act = action-is (g .held) p ex
 
-  pub stop-31 : {r : Answer} → x ≡ 0 → numbers r ≡ numbersOf (wrongAt t (machineOf st li s)) → Ends t (run t l a (begun st₀ li₀)) r st li
-  stop-31 e h = ends-31 (machineOf st li s) _ (sym (run-wrong t l (machineOf st li s) (s .left) (sym act ∙ e)) ∙ g .same) h
+  pub stop-31 : {c : Counts} → x ≡ 0 → countsOf c ≡ reached s → Ends (run t l a (begun st₀ li₀)) (Wrong (s .position) c) st li
+  stop-31 e h = ends-31 (machineOf st li s) _ (sym (run-wrong t l (machineOf st li s) (s .left) (sym act ∙ e)) ∙ g .same) (record { counted = h; place = refl })
 
   module _ (nz : x ≡ 0 → ⊥) where
-    pub stop-32 : {r : Answer} → s .left ≡ 0 → numbers r ≡ 32 ∷ reached s → Ends t (run t l a (begun st₀ li₀)) r st li
+    pub stop-32 : {r : Answer} → s .left ≡ 0 → numbers r ≡ 32 ∷ reached s → Ends (run t l a (begun st₀ li₀)) (Final r) st li
     stop-32 e h =
-        ends-else 32 (machineOf st li s) _ refl
+        ends-else 32 (machineOf st li s) _ (λ z. omega arith)
         (sym (run-none t l (machineOf st li s) (s .left) e (λ e. nz (act ∙ e))) ∙ g .same) h
 
     module _ (more : s .left ≡ 0 → ⊥) where
@@ -87,14 +84,14 @@ module _ {t l cs st₀ li₀ : List ℕ} {a : ℕ} {z : Shape} {st li : List ℕ
 
       module _ {st′ li′ : List ℕ} where
         pub stop-step : {e : Stop} {r : Answer} → Stepped t cs z s st′ li′ (Ended e) (movedBy t x (machineOf st li s))
-            → numbers r ≡ stopNumber e ∷ reached s → Ends t (run t l a (begun st₀ li₀)) r st′ li′
+            → numbers r ≡ stopNumber e ∷ reached s → Ends (run t l a (begun st₀ li₀)) (Final r) st′ li′
         unfolding after
         stop-step {e} y h = ends-else (stopNumber e) (machineOf st′ li′ s) _ (stop-number e) (stepped (y .next)) h
 
         pub accept-step : {r : Answer} → Stepped t cs z s st′ li′ Accepted (movedBy t x (machineOf st li s))
-            → numbers r ≡ 0 ∷ acceptedAt s → Ends t (run t l a (begun st₀ li₀)) r st′ li′
+            → numbers r ≡ 0 ∷ acceptedAt s → Ends (run t l a (begun st₀ li₀)) (Final r) st′ li′
         unfolding after
-        accept-step y h = ends-else 0 (acceptedOf st′ li′ s) _ refl (stepped (y .next)) h
+        accept-step y h = ends-else 0 (acceptedOf st′ li′ s) _ (λ z. omega arith) (stepped (y .next)) h
 
         module _ {s′ : State} (y : Stepped t cs z s st′ li′ (Moved s′) (movedBy t x (machineOf st li s))) where
           pub falls : s′ .left < s .left

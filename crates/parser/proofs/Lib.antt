@@ -2,3 +2,4 @@ pub mod Held
 pub mod Going
 pub mod Whole
 pub mod Listing
+pub mod Cleared

@@ -2,11 +2,13 @@
 use Prim.Native.Nat.{ℕ, _+_, _^_, _<_, _≤_}
 use mathlib.Core.Path.{_≡_}
 use mathlib.Core.Logic.{_≢_}
-use mathlib.Core.List.{List, [], _∷_}
-use lib.ListN.{length}
+use mathlib.Core.List.{List, [], _∷_, _++_}
+use lib.Count.{ones}
 use Rattle.machine.specs.Report.{numbersOf}
 use Rattle.machine.specs.ComputedRun.{Machine, Outcome, endedAt}
 use Rattle.steps.specs.declared.State.{State}
+use Rattle.exploration.specs.declared.Expected.{Expected}
+use Rattle.exploration.specs.declared.Expected.the-variants.{Known, Cut}
 use Rattle.parser.specs.declared.Counts.{Counts}
 use Rattle.parser.specs.declared.Answer.{Answer}
 use Rattle.parser.specs.declared.Ending.{Ending}
@@ -39,9 +41,18 @@ pub data Says (o : Outcome) : Ending → Type 0 where
   final : {r : Answer} → o .number ≢ 31 → numbers r ≡ numbersOf (endedAt (o .number) (o .final)) → Says o (Final r)
   wrong : {position : ℕ} {c : Counts} → o .number ≡ 31 → At (o .final) position c → Says o (Wrong position c)
 
--- so are both areas at exit, and the position is one of the input
-pub record Ends (o : Outcome) (l : List ℕ) (e : Ending) (st li : List ℕ) : Type 0 where
+-- so are both areas at exit
+pub record Ends (o : Outcome) (e : Ending) (st li : List ℕ) : Type 0 where
   pub says : Says o e
   pub stack : st ≡ o .final .stack
   pub list : li ≡ o .final .list
-  pub within : o .final .position ≤ length l
+
+-- what is told of an exploration at a position
+abbrev pub tells : Expected → ℕ → Counts → List ℕ
+tells (Known word) position c = 31 ∷ countsOf c ++ position ∷ word ∷ ones word ∷ []
+tells Cut position c = 46 ∷ countsOf c ++ position ∷ 0 ∷ 0 ∷ []
+
+-- where the input before a position is to be explored, that is a part of the input, whose length is n
+abbrev pub Explorable : ℕ → Ending → Type 0
+Explorable n (Final r) = Unit {0}
+Explorable n (Wrong position c) = position ≤ n

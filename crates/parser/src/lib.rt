@@ -12,11 +12,11 @@ ghost use Prim.Native.Nat.{_+_, _^_, _<_, _≤_};
 ghost use lib.ListN.{length, replicate};
 ghost use Rattle.machine.specs.Checks.{inputOk, refusalOf};
 ghost use Rattle.machine.specs.Report.{numbersOf};
-ghost use Rattle.machine.specs.ComputedRun.{Machine, run as runs, start, wrongAt, readingOf, reading};
+ghost use Rattle.machine.specs.ComputedRun.{Machine, Outcome, run as runs, start, wrongAt, reportOf, reading};
 ghost use Rattle.machine.proofs.Checked.{Checked, Passed};
 ghost use Rattle.steps.specs.State.{stopNumber};
 ghost use Rattle.parser.specs.Answer.{countsOf, numbers, ReadsAs};
-ghost use Rattle.parser.specs.Phases.{reached, acceptedAt, countBits, Countable, Ends, At};
+ghost use Rattle.parser.specs.Phases.{reached, acceptedAt, countBits, Countable, At, Says, Ends, Explorable, tells};
 ghost use Rattle.parser.specs.Terminals.{Lists};
 
 // The steps made, the stack places in use and the productions listed.
@@ -128,23 +128,40 @@ fn run(table: &[u16], input: &[u8], stack: &mut [u16], list: &mut [u16], step_li
     }
 }
 
+// What an exploration tells, with the position and the counts of the run.
+fn told(e: Expected, position: usize, counts: Counts) -> Answer
+    ensures { λ r. ⌜ numbers r ≡ tells e position counts ⌝ }
+{
+    match e {
+        Expected::Known(word) => Answer::NoAction {
+            position,
+            expected: word,
+            size: sets::size(word),
+            counts,
+        },
+        Expected::Cut => Answer::Unexplored { position, counts },
+    }
+}
+
 // The answer for a wrong terminal at a position: the terminals that can follow the input before it.
 fn explored(table: &[u16], input: &[u8], second: &mut [u16], step_limit: u64, position: usize, counts: Counts) -> Answer
     requires { ⌜ (Checked (now table)) × (inputOk (now table) (now input) ≡ true) × (0 < length (now second)) × (position ≤ length (now input)) ⌝ }
     ensures { λ r. ⌜ ((m : Machine) → At m position counts → numbers r ≡ numbersOf (wrongAt (now (table .entry)) (now (input .entry)) «step_limit» (length (now (second .entry))) m)) ⌝ }
 {
     let e = exploration::explore(table, &input[..position], second, step_limit);
+    told(e, position, counts)
+}
+
+// The answer of a run that has ended.
+fn answered(table: &[u16], input: &[u8], second: &mut [u16], step_limit: u64, e: Ending) -> Answer
+    requires { ⌜ (Checked (now table)) × (inputOk (now table) (now input) ≡ true) × (0 < length (now second)) × (Explorable (length (now input)) e) ⌝ }
+    ensures { λ r. ⌜ ((o : Outcome) → Says o e → numbers r ≡ numbersOf (reportOf (now (table .entry)) (now (input .entry)) «step_limit» (length (now (second .entry))) o)) ⌝ }
+{
     match e {
-        Expected::Known(word) => {
-            let n = sets::size(word);
-            Answer::NoAction {
-                position,
-                expected: word,
-                size: n,
-                counts,
-            }
+        Ending::Final(a) => a,
+        Ending::Wrong(position, counts) => {
+            explored(table, input, second, step_limit, position, counts)
         }
-        Expected::Cut => Answer::Unexplored { position, counts },
     }
 }
 
@@ -158,17 +175,30 @@ fn clear(second: &mut [u16])
     }
 }
 
-// The answer of a run that has ended; the second area is cleared.
-fn answer(table: &[u16], input: &[u8], second: &mut [u16], step_limit: u64, e: Ending) -> Answer
+// The same, and the second area is cleared.
+fn finish(table: &[u16], input: &[u8], second: &mut [u16], step_limit: u64, e: Ending) -> Answer
+    requires { ⌜ (Checked (now table)) × (inputOk (now table) (now input) ≡ true) × (0 < length (now second)) × (Explorable (length (now input)) e) ⌝ }
+    ensures { λ r. ⌜ ((o : Outcome) → Says o e → numbers r ≡ numbersOf (reportOf (now (table .entry)) (now (input .entry)) «step_limit» (length (now (second .entry))) o)) × (now (second .exit) ≡ replicate (length (now (second .entry))) 0) ⌝ }
 {
-    let a = match e {
-        Ending::Final(a) => a,
-        Ending::Wrong(position, counts) => {
-            explored(table, input, second, step_limit, position, counts)
-        }
-    };
+    let a = answered(table, input, second, step_limit, e);
     clear(second);
     a
+}
+
+// The reading of an input by a table, where nothing is refused.
+fn read(
+    table: &[u16],
+    input: &[u8],
+    stack: &mut [u16],
+    list: &mut [u16],
+    second: &mut [u16],
+    step_limit: u64,
+) -> Answer
+    requires { ⌜ refusalOf (now table) (now input) (length (now stack)) (length (now second)) ≡ 0 ⌝ }
+    ensures { λ r. ⌜ ReadsAs (reading (now (table .entry)) (now (input .entry)) (now (stack .entry)) (now (list .entry)) (now (second .entry)) «step_limit») r (now (stack .exit)) (now (list .exit)) (now (second .exit)) ⌝ }
+{
+    let e = run(table, input, stack, list, step_limit);
+    finish(table, input, second, step_limit, e)
 }
 
 // Reads an input by a table: every input is answered, and a refusal changes nothing.
@@ -185,10 +215,7 @@ pub fn parse(
     let v = table_checks::check(table, input, stack.len(), second.len());
     match v {
         Verdict::Refused(e) => Answer::Refused(e),
-        Verdict::Passed => {
-            let e = run(table, input, stack, list, step_limit);
-            answer(table, input, second, step_limit, e)
-        }
+        Verdict::Passed => read(table, input, stack, list, second, step_limit),
     }
 }
 

@@ -5,9 +5,9 @@ use mathlib.Core.List.{List, _∷_}
 use Prim.Native.Nat.{ℕ}
 use lib.ListN.{length-set}
 use Rattle.machine.specs.ComputedRun.{start}
-use Rattle.machine.proofs.Checked.{passed, cells-within}
+use Rattle.machine.proofs.Checked.{cells-within}
 use Rattle.parser.specs.Phases.{countBits}
-use Rattle.parser.proofs.Held.{action-within, row-in, steppable}
+use Rattle.parser.proofs.Held.{action-within, steppable}
 use Rattle.parser.proofs.Going.{Going, going-start, countable, countable-next, stop-31, stop-32, stop-step, accept-step, falls, goes-on}
 use Rattle.parser.proofs.run.Statement.{statement}
 use Rattle.parser.proofs.run.Tie as tie
@@ -19,25 +19,24 @@ abbrev μ-loop : tie.MeasureT-loop
 μ-loop table input stack₀ list₀ step-limit z cells s₀ stack list s = s .left
 
 shape-of-requires : tie.Need-shape-of-requires Inv-loop μ-loop
-shape-of-requires c κs = passed _ _ _ (c .before .before .before .before .pre) .table .long
+shape-of-requires c κs = c .before .before .before .before .pre .0 .table .long
 
 cells-of-requires : tie.Need-cells-of-requires Inv-loop μ-loop
-cells-of-requires c κs = cells-within (passed _ _ _ (c .before .before .before .before .before .pre) .table) (c .shape-of .ensures)
+cells-of-requires c κs = cells-within (c .before .before .before .before .before .pre .0 .table) (c .shape-of .ensures)
 
 slice-write-stack : tie.Need-slice-write-stack Inv-loop μ-loop
-slice-write-stack c = passed _ _ _ (c .before .before .before .before .before .before .pre) .places
+slice-write-stack c = c .before .before .before .before .before .before .pre .0 .places
 
 loop-holds : tie.Need-loop-holds Inv-loop μ-loop
-loop-holds c = let b6 = c .before .before .before .before .before .before in going-start (now (b6 .args .stack)) _ (passed _ _ _ (b6 .pre)) (c .before .shape-of .ensures) (c .cells-of .ensures)
+loop-holds c = let b6 = c .before .before .before .before .before .before in going-start (now (b6 .args .stack)) _ (b6 .pre .0) (c .before .shape-of .ensures) (c .cells-of .ensures)
 
 action-requires : tie.Need-action-requires Inv-loop μ-loop
-action-requires c κs = action-within (c .loop .inv .held) (passed _ _ _ (c .before .before .before .before .before .before .before .pre))
+action-requires c κs = action-within (c .loop .inv .held) (c .before .before .before .before .before .before .before .pre .0)
 
-no-action-requires : tie.Need-no-action-requires Inv-loop μ-loop
-no-action-requires c κs =
+count-requires : tie.Need-count-requires Inv-loop μ-loop
+count-requires c κs =
     let b2 = c .before .before in
-    let r = row-in (b2 .loop .inv .held) in
-    (r .0, r .1, countable (b2 .loop .inv) countBits (b2 .before .before .before .before .before .before .before .fits .step-limit .fits))
+    countable (b2 .loop .inv) countBits (b2 .before .before .before .before .before .before .before .fits .step-limit .fits)
 
 same-length : tie.Need-same-length Inv-loop μ-loop
 same-length c = c .before .before .before .loop .inv .stacks ∙ simp length-set
@@ -46,10 +45,10 @@ returns : tie.Need-returns Inv-loop μ-loop
 unfolding start
 returns c =
     let b3 = c .before .before .before in
-    stop-31 (b3 .loop .inv) (passed _ _ _ (b3 .before .before .before .before .before .before .before .pre)) (c .before .before .action .ensures .0) (c .before .if1 .taken) (c .no-action .ensures _ _ _ (b3 .loop .inv .held))
+    stop-31 (b3 .loop .inv) (b3 .before .before .before .before .before .before .before .pre .0) (c .before .before .action .ensures .0) (c .before .if1 .taken) (c .count .ensures)
 
-count-requires : tie.Need-count-requires Inv-loop μ-loop
-count-requires c κs = let b4 = c .before .before .before .before in countable (b4 .loop .inv) countBits (b4 .before .before .before .before .before .before .before .fits .step-limit .fits)
+count-requires-2 : tie.Need-count-requires-2 Inv-loop μ-loop
+count-requires-2 c κs = let b4 = c .before .before .before .before in countable (b4 .loop .inv) countBits (b4 .before .before .before .before .before .before .before .fits .step-limit .fits)
 
 same-length-3 : tie.Need-same-length-3 Inv-loop μ-loop
 same-length-3 c = c .before .before .before .before .before .loop .inv .stacks ∙ simp length-set
@@ -58,13 +57,14 @@ returns-2 : tie.Need-returns-2 Inv-loop μ-loop
 unfolding start
 returns-2 c =
     let b5 = c .before .before .before .before .before in
-    stop-32 (b5 .loop .inv) (passed _ _ _ (b5 .before .before .before .before .before .before .before .pre)) (c .before .before .before .before .action .ensures .0) (c .before .before .before .if1 .left) (c .before .if2 .taken) (ap (λ (x : List ℕ). 32 ∷ x) (c .count .ensures))
+    stop-32 (b5 .loop .inv) (b5 .before .before .before .before .before .before .before .pre .0) (c .before .before .before .before .action .ensures .0) (c .before .before .before .if1 .left) (c .before .if2 .taken) (ap (λ (x : List ℕ). 32 ∷ x) (c .count2 .ensures))
 
 step-requires : tie.Need-step-requires Inv-loop μ-loop
 step-requires c κs =
     let b6 = c .before .before .before .before .before .before in
+    let b13 = b6 .before .before .before .before .before .before .before in
     let a = c .before .before .before .before .before .action .ensures in
-    steppable (b6 .loop .inv .held) (passed _ _ _ (b6 .before .before .before .before .before .before .before .pre)) (a .0) (a .1) (c .before .before .before .before .if1 .left) (c .before .before .if2 .left)
+    steppable (b6 .loop .inv .held) (b13 .pre .0) (a .0) (b13 .pre .1) (a .1) (c .before .before .before .before .if1 .left) (c .before .before .if2 .left)
 
 stopped-requires : tie.Need-stopped-requires Inv-loop μ-loop
 stopped-requires c κs =
@@ -83,19 +83,19 @@ unfolding start
 returns-3 c =
     let b8 = c .before .before .before .before .before .before .before .before in
     let b15 = b8 .before .before .before .before .before .before .before in
-    stop-step (b15 .loop .inv) (passed _ _ _ (b15 .before .before .before .before .before .before .before .pre)) (b8 .before .before .before .before .before .before .action .ensures .0) (b8 .before .before .before .before .before .if1 .left) (b8 .before .before .before .if2 .left) (rw (c .before .before .n .given .1) at (b8 .step .ensures)) (c .stopped .ensures)
+    stop-step (b15 .loop .inv) (b15 .before .before .before .before .before .before .before .pre .0) (b8 .before .before .before .before .before .before .action .ensures .0) (b8 .before .before .before .before .before .if1 .left) (b8 .before .before .before .if2 .left) (rw (c .before .before .n .given .1) at (b8 .step .ensures)) (c .stopped .ensures)
 
 loop-less : tie.Need-loop-less Inv-loop μ-loop
 loop-less c =
     let b7 = c .before .before .before .before .before .before .before in
     let b14 = b7 .before .before .before .before .before .before .before in
-    falls (b14 .loop .inv) (passed _ _ _ (b14 .before .before .before .before .before .before .before .pre)) (b7 .before .before .before .before .before .before .action .ensures .0) (b7 .before .before .before .before .before .if1 .left) (b7 .before .before .before .if2 .left) (rw (c .before .n2 .given .1) at (b7 .step .ensures))
+    falls (b14 .loop .inv) (b14 .before .before .before .before .before .before .before .pre .0) (b7 .before .before .before .before .before .before .action .ensures .0) (b7 .before .before .before .before .before .if1 .left) (b7 .before .before .before .if2 .left) (rw (c .before .n2 .given .1) at (b7 .step .ensures))
 
 loop-again : tie.Need-loop-again Inv-loop μ-loop
 loop-again c =
     let b7 = c .before .before .before .before .before .before .before in
     let b14 = b7 .before .before .before .before .before .before .before in
-    goes-on (b14 .loop .inv) (passed _ _ _ (b14 .before .before .before .before .before .before .before .pre)) (b7 .before .before .before .before .before .before .action .ensures .0) (b7 .before .before .before .before .before .if1 .left) (b7 .before .before .before .if2 .left) (rw (c .before .n2 .given .1) at (b7 .step .ensures)) (b7 .step .kept .1 .1 .0) (b7 .step .kept .1 .1 .1 .0)
+    goes-on (b14 .loop .inv) (b14 .before .before .before .before .before .before .before .pre .0) (b7 .before .before .before .before .before .before .action .ensures .0) (b7 .before .before .before .before .before .if1 .left) (b7 .before .before .before .if2 .left) (rw (c .before .n2 .given .1) at (b7 .step .ensures)) (b7 .step .kept .1 .1 .0) (b7 .step .kept .1 .1 .1 .0)
 
 accepted-requires : tie.Need-accepted-requires Inv-loop μ-loop
 accepted-requires c κs =
@@ -114,7 +114,7 @@ unfolding start
 returns-4 c =
     let b7 = c .before .before .before .before .before .before .before in
     let b14 = b7 .before .before .before .before .before .before .before in
-    accept-step (b14 .loop .inv) (passed _ _ _ (b14 .before .before .before .before .before .before .before .pre)) (b7 .before .before .before .before .before .before .action .ensures .0) (b7 .before .before .before .before .before .if1 .left) (b7 .before .before .before .if2 .left) (rw (c .before .enum-told .given .1) at (b7 .step .ensures)) (c .accepted .ensures)
+    accept-step (b14 .loop .inv) (b14 .before .before .before .before .before .before .before .pre .0) (b7 .before .before .before .before .before .before .action .ensures .0) (b7 .before .before .before .before .before .if1 .left) (b7 .before .before .before .if2 .left) (rw (c .before .enum-told .given .1) at (b7 .step .ensures)) (c .accepted .ensures)
 
 pub run-spec : {M : Type 1} → statement M
 run-spec =
@@ -127,11 +127,11 @@ run-spec =
     slice-write-stack
     loop-holds
     action-requires
-    no-action-requires
+    count-requires
     same-length
     (λ c. c .before .before .before .loop .inv .lists)
     returns
-    count-requires
+    count-requires-2
     same-length-3
     (λ c. c .before .before .before .before .before .loop .inv .lists)
     returns-2
