@@ -1,8 +1,9 @@
 // One step of the reader's machine on a stack area alone: no production is listed, and a place popped keeps its number.
 use tables::Shape;
+ghost use mathlib.Core.Path.{_≡_};
 ghost use mathlib.Core.List.{List};
 ghost use Prim.Native.Nat.{ℕ, _<_, _^_};
-ghost use Rattle.tables.specs.Layout.{states, productions};
+ghost use Rattle.tables.specs.Layout.{states, productions, leftOf, cellOf};
 ghost use Rattle.unlisted_steps.specs.Spot.{Readable, Stands, Standing, Shifts, Reduces};
 
 // The stack places in use, how many steps may still be made, and the state on top.
@@ -37,15 +38,17 @@ pub fn shift(second: &mut [u16], s: Spot, a: usize) -> Next
     }
 }
 
+// The state to go to from the state under by the left side of production r, or 0.
+fn goto(table: &[u16], cells: &[u16], z: Shape, under: usize, r: usize) -> usize
+    requires { ⌜ (Readable (now table) (now cells) z) × (under < states (now table)) × (r < productions (now table)) ⌝ }
+    ensures { λ q. ⌜ (q ≡ cellOf (now (table .entry)) under (leftOf (now (table .entry)) r)) × (q < states (now (table .entry))) ⌝ }
+{
+    let left = tables::left(table, r) as usize;
+    tables::cell_at(cells, under * z.width, left) as usize
+}
+
 // The reduction by production r.
-pub fn reduce(
-    table: &[u16],
-    cells: &[u16],
-    second: &mut [u16],
-    z: Shape,
-    s: Spot,
-    r: usize,
-) -> Next
+pub fn reduce(table: &[u16], cells: &[u16], second: &mut [u16], z: Shape, s: Spot, r: usize) -> Next
     requires { ⌜ (Readable (now table) (now cells) z) × (Standing (now table) (now second) s) × (r < productions (now table)) × (0 < s .left) ⌝ }
     ensures { λ x. ⌜ ((q : ℕ) (qs : List ℕ) → Stands (now (table .entry)) (now (second .entry)) s q qs → Reduces (now (table .entry)) (now (second .exit)) s q qs r x) ⌝ }
 {
@@ -55,19 +58,14 @@ pub fn reduce(
     }
     let d = s.depth - n;
     let under = second[d - 1] as usize;
-    let left = tables::left(table, r) as usize;
-    let q = tables::cell_at(cells, under * z.width, left);
+    let q = goto(table, cells, z, under, r);
     if q == 0 {
         return Next::Broken;
     }
-    if d < second.len() {
-        second[d] = q;
-        Next::Moved(Spot {
-            depth: d + 1,
-            left: s.left - 1,
-            top: q as usize,
-        })
-    } else {
-        Next::Full
-    }
+    let popped = Spot {
+        depth: d,
+        left: s.left,
+        top: under,
+    };
+    shift(second, popped, q)
 }
