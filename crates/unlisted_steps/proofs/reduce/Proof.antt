@@ -14,7 +14,10 @@ returns : tie.Need-returns
 returns c = let b2 = c .before .before in λ q qs h. pops-bottom h _ _ (b2 .length-of .ensures) (c .if1 .taken)
 
 cast-under : tie.Need-cast-under
-cast-under c = let b4 = c .before .before .before .before in let b8 = b4 .before .before .before .before in omega (arith, c .slice-known2 .given (b8 .args .s .depth - b4 .length-of .result - 1))
+cast-under c =
+    let b4 = c .before .before .before .before in
+    let b8 = b4 .before .before .before .before in
+    omega (arith, c .slice-known2 .given (b8 .args .s .depth - b4 .length-of .result - 1))
 
 goto-requires : tie.Need-goto-requires
 goto-requires c κs =
@@ -29,9 +32,12 @@ returns-2 c =
 
 returns-3 : tie.Need-returns-3
 returns-3 c =
-    let b5 = c .before .before .before .before .before in
-    let b8 = b5 .before .before .before in
-    λ q qs h. goto-shifts h _ _ (b8 .before .before .length-of .ensures) (b8 .if1 .left) (b5 .goto .ensures .0) (c .before .before .before .before .if2 .left) (c .before .before .shift .ensures _ _ _ (popped h (b8 .if1 .left) _) (b5 .goto .ensures .1))
+    let b2 = c .before .before in
+    let b4 = b2 .before .before in
+    let b8 = b4 .before .before .before .before in
+    λ q qs h.
+    goto-shifts h _ _ (b8 .before .before .length-of .ensures) (b8 .if1 .left) (b4 .before .goto .ensures .0) (b4 .if2 .left)
+    (b2 .shift .ensures _ _ _ (popped h (b8 .if1 .left) _) (b4 .before .goto .ensures .1))
 
 pub reduce-spec : {M : Type 1} → statement M
 reduce-spec =
