@@ -24,7 +24,7 @@ use Rattle.machine.proofs.ReportLaws.{Reading, numberOf, positionOf, production
 use Rattle.machine.proofs.ReadsLaws.{faithful, refused-is}
 
 -- the end is named just where the input begins a sentence and is none
-end-is : (g : Grammar) (l : List ℕ) (i : ℕ) → ErrorPosition g l i → (i ≡ length l) ↔ (Begins g l × (Sentence g l → ⊥))
+pub end-is : (g : Grammar) (l : List ℕ) (i : ℕ) → ErrorPosition g l i → (i ≡ length l) ↔ (Begins g l × (Sentence g l → ⊥))
 end-is g l i (at-terminal h b n) = (
   λ e. absurd (omega arith),
   λ t. absurd (n (begins-front g (take (suc i) l) (drop (suc i) l) (rw take-append-drop (t .0)))),

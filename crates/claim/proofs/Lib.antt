@@ -4,3 +4,4 @@ pub mod Refusals
 pub mod Follow
 pub mod ClaimLaws
 pub mod Delivered
+pub mod Offers
