@@ -21,6 +21,7 @@ use Rattle.machine.specs.Exploration.{Comes, unlisted, Explored, shifts, stops,
 use Rattle.machine.proofs.LrMachineLaws.{Config, conf, listed, Step, Path}
 use Rattle.machine.proofs.ReportLaws.{Stops, accepted-here, wrong-here, no-steps, list-full, broken-here, stack-full}
 use Rattle.machine.proofs.Settles.{Settled, settles}
+use Rattle.claim.specs.TrueOffer.{TrueOffer}
 use Rattle.claim.proofs.Means.{Limits, TableMeans}
 use Rattle.claim.proofs.Follow.{act, tab, follows, Followed, followed}
 use Rattle.claim.proofs.ClaimLaws.{Ended, sentence, no-sentence, out-32, out-33, out-34, ended, end-is}
@@ -223,13 +224,23 @@ module _ (g : Grammar) (f : Formed g) (pr : AllProductive g) (li : Limits g) (t 
         go b (reads {c = conf qs x out} c w) e = says sl c w .not-broken e
 
     module _ {word : ℕ} (h : 0 < second) (o : Offer t limit second line word) where
-      -- the offer holds the terminals with which the line goes on to a sentence
-      pub offers-terminals : (m : ℕ) → m ≢ 0 → Has word m ↔ ((m < g.terminals) × Begins g (line ++ m ∷ []))
-      offers-terminals m z = (λ i. to (o .members m .0 i), λ p. offered h o m (rw tm.terminals-are (p .0)) (λ x. wrong-begins-none z (p .0) x (p .1)))
+      -- the offer is the grammar's
+      pub true-offer : TrueOffer g line word
+      true-offer = record {
+        terminals = λ m z. (λ i. let p = o .members m .0 i in let b = below (p .0) in (b, shifted-begins z b (p .1)), λ p. offered h o m (above (p .0)) (λ x. wrong-begins-none z (p .0) x (p .1)));
+        end = (λ i. accepted-sentence (o .members 0 .0 i .1), λ s. offered h o 0 (above f.end-marker) (λ x. wrong-sentence-none x s));
+      }
         where
-          to : (m < terminals t) × Explored t limit second line m 0 → (m < g.terminals) × Begins g (line ++ m ∷ [])
-          to p = let b : m < g.terminals = rw tm.terminals-are at (p .0) in (b, shifted-begins z b (p .1))
+          below : {m : ℕ} → m < terminals t → m < g.terminals
+          below b = rw tm.terminals-are at b
+
+          above : {m : ℕ} → m < g.terminals → m < terminals t
+          above b = rw tm.terminals-are b
+
+      -- it holds the terminals with which the line goes on to a sentence
+      pub offers-terminals : (m : ℕ) → m ≢ 0 → Has word m ↔ ((m < g.terminals) × Begins g (line ++ m ∷ []))
+      offers-terminals m z = true-offer .terminals m z
 
       -- and 0 where the line is one
       pub offers-end : Has word 0 ↔ Sentence g line
-      offers-end = (λ i. accepted-sentence (o .members 0 .0 i .1), λ s. offered h o 0 (rw tm.terminals-are f.end-marker) (λ x. wrong-sentence-none x s))
+      offers-end = true-offer .end
