@@ -1,4 +1,4 @@
--- Demand 3 over cards: for every accepted card, what the maker leaves in its area, every input, both areas and the step limit.
+-- Demand 3 over cards: for every accepted card, what the maker leaves in its area, every input, the three areas and the step limit.
 use Prim.Native.Nat.{ℕ}
 use mathlib.Core.Path.{_≡_}
 use mathlib.Core.List.{List, _++_}
@@ -26,7 +26,7 @@ module _ (c : List ℕ) (m : cardAnswer c ≡ made) where
       record { terminals-most = l .terminals-to; nonterminals-most = l .nonterminals-to; productions-least = l .productions-from; productions-most = l .productions-to; length-most = λ r h. right-short c (the-form c mk) r h }
 
   -- the table, and whatever stands behind it
-  pub demand-3 : (behind input stack list : List ℕ) (limit : ℕ) → Demand3 (grammarOf c) input (reading (tableOf c ++ behind) input stack list limit)
+  pub demand-3 : (behind input stack list second : List ℕ) (limit : ℕ) → Demand3 (grammarOf c) input (reading (tableOf c ++ behind) input stack list second limit)
   demand-3 behind = claim (grammarOf c) (the-formed c mk) (the-productive c mk) limits _ _ (tableOf c) (table-is c mk) (mk .few) behind
 
 -- across both calls: the table area as the maker leaves it, whatever the three areas were
@@ -34,7 +34,7 @@ answer-of : (t z w c : List ℕ) → generated t z w c .answer ≡ made → answ
 unfolding generated
 answer-of t z w c h = h
 
-pub across : (t z w c : List ℕ) → generated t z w c .answer ≡ made → (input stack list : List ℕ) (limit : ℕ) → Demand3 (grammarOf c) input (reading (generated t z w c .table) input stack list limit)
-across t z w c e input stack list limit =
+pub across : (t z w c : List ℕ) → generated t z w c .answer ≡ made → (input stack list second : List ℕ) (limit : ℕ) → Demand3 (grammarOf c) input (reading (generated t z w c .table) input stack list second limit)
+across t z w c e input stack list second limit =
     let a : answerOf (length t) (length z) (length w) c ≡ made = answer-of t z w c e in
-    rw (made-area t z w c a) (demand-3 c (card-made t z w c a) _ input stack list limit)
+    rw (made-area t z w c a) (demand-3 c (card-made t z w c a) _ input stack list second limit)

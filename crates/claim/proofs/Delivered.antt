@@ -10,5 +10,5 @@ use Rattle.claim.proofs.Meaning.{table-means}
 use Rattle.claim.proofs.ClaimLaws.{Demand3, demand-3}
 
 pub claim : (g : Grammar) → Formed g → AllProductive g → Limits g → (count : ℕ) (next : ℕ → ℕ → ℕ) (l : List ℕ) → Table g count next l → count ≤ 256
-    → (behind input stack list : List ℕ) (limit : ℕ) → Demand3 g input (reading (l ++ behind) input stack list limit)
+    → (behind input stack list second : List ℕ) (limit : ℕ) → Demand3 g input (reading (l ++ behind) input stack list second limit)
 claim g f pr li count next l tb few behind = demand-3 g f pr li (l ++ behind) (table-means g f pr li count next l tb few behind)

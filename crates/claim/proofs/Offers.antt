@@ -1,12 +1,11 @@
 -- What fresh readings say of the grammar: over a table that means it, a terminal is shifted behind a line just where both begin a sentence,
 -- and the line is accepted just where it is one.
-use Prim.Native.Nat.{ℕ, suc, _+_, _-_, _<_, _≤_}
+use Prim.Native.Nat.{ℕ, _+_, _-_, _<_}
 use mathlib.Core.Path.{_≡_, refl}
 use mathlib.Core.Logic.{_≢_, _↔_}
 use mathlib.Core.List.{List, [], _∷_, _++_, append-nil}
-use lib.ListN.{length, length-append}
+use lib.ListN.{length}
 use native.Mathlib.Omega.{arith}
-use native.Mathlib.Decide.{ℕ-discrete}
 use Rattle.grammar.specs.Grammar.{Grammar, Formed, Symbols, none, more, Sentence}
 use Rattle.grammar.proofs.Yield.{nil, symbols-append}
 use Rattle.lr.proofs.Canonical.{start-viable, by-path}
@@ -15,121 +14,31 @@ use Rattle.lr.proofs.ItemLaws.{AllProductive, begins}
 use Rattle.lr.proofs.MachineLaws.{Read, read, sound}
 use Rattle.lr.proofs.ErrorPosition.{Begins, extends-begins}
 use Rattle.sets.specs.Bit.{Has}
-use Rattle.sets.specs.Lists.{rest}
 use Rattle.tables.specs.Layout.{terminals}
-use Rattle.machine.specs.Exploration.{Comes, unlisted, Explored, shifts, stops, reads, Cut, no-steps-left, no-place-left, broken-off, Offer}
-use Rattle.machine.proofs.LrMachineLaws.{Config, conf, listed, Step, Path}
-use Rattle.machine.proofs.ReportLaws.{Stops, accepted-here, wrong-here, no-steps, list-full, broken-here, stack-full}
-use Rattle.machine.proofs.Settles.{Settled, settles}
+use Rattle.machine.specs.Exploration.{Comes, unlisted, Explored, shifts, stops, reads, Offer}
+use Rattle.machine.proofs.LrMachineLaws.{Config, conf}
+use Rattle.machine.proofs.ReportLaws.{Stops}
+use Rattle.machine.proofs.Settles.{path-unread}
+use Rattle.machine.proofs.Explorations.{ends-somehow, Way, found, wrong, cut-off, way}
 use Rattle.claim.specs.TrueOffer.{TrueOffer}
 use Rattle.claim.proofs.Means.{Limits, TableMeans}
 use Rattle.claim.proofs.Follow.{act, tab, follows, Followed, followed}
-use Rattle.claim.proofs.ClaimLaws.{Ended, sentence, no-sentence, out-32, out-33, out-34, ended, end-is}
+use Rattle.claim.proofs.Endings.{Ended, sentence, no-sentence, out-32, out-33, out-34, ended, end-is}
 
 -- ---- for any table
-
-not-none : (a : ℕ) (x : List ℕ) → a ∷ x ≢ []
-not-none a x e = let z : _≡_ {A = ℕ} 0 1 = cc in omega arith
 
 some : {x : List ℕ} → x ≢ [] → 0 < length x
 some {x = []} n = absurd (n refl)
 some {x = a ∷ x} n = omega arith
 
-rest-shorter : (x : List ℕ) → length (rest x) ≤ length x
-rest-shorter [] = omega arith
-rest-shorter (a ∷ x) = omega arith
-
--- the terminals still to be read
-abbrev unread : Config → ℕ
-unread (conf qs x out) = length x
-
--- the numbers on which a machine stops
-data Number : ℕ → Type 0 where
-  ends-well : Number 0
-  refuses : Number 31
-  fills-list : Number 34
-  cut-short : {n : ℕ} → Cut n → Number n
-
-module _ {t : List ℕ} where
-  step-lists : {c c′ : Config} → Step t c c′ → listed c′ ≤ suc (listed c)
-  step-lists (Step.shift s e h k) = omega arith
-  step-lists (Step.reduce {out = out} r p ps s e n d f h) = let z = length-append out (r ∷ []) in omega (arith, z)
-
-  -- each production listed is a step
-  path-lists : {n m : ℕ} {c c′ : Config} → Path t n m c c′ → listed c′ ≤ n + listed c
-  path-lists Path.none = omega arith
-  path-lists (Path.more s p) = let a = step-lists s in let b = path-lists p in omega arith
-
-  step-unread : {c c′ : Config} → Step t c c′ → unread c′ ≤ unread c
-  step-unread (Step.shift {x = x} s e h k) = rest-shorter x
-  step-unread (Step.reduce r p ps s e n d f h) = omega arith
-
-  path-unread : {n m : ℕ} {c c′ : Config} → Path t n m c c′ → unread c′ ≤ unread c
-  path-unread Path.none = omega arith
-  path-unread (Path.more s p) = let a = step-unread s in let b = path-unread p in omega arith
-
-  module _ {limit second : ℕ} where
-    room : {l : List ℕ} {left : ℕ} {c : Config} → Comes t limit second l c left → listed c + left ≤ limit
-    room r = let a = path-lists (r .path) in omega (arith, r .budget)
-
-    has-room : {left n : ℕ} {c : Config} → listed c + left ≤ limit → Stops t (unlisted limit second left) c n → n ≢ 34
-    has-room h (accepted-here _ _) e = omega arith
-    has-room h (wrong-here _) e = omega arith
-    has-room h (no-steps _ _) e = omega arith
-    has-room h (list-full _ k z) e = omega arith
-    has-room h (broken-here _ _ _) e = omega arith
-    has-room h (stack-full _ _ _ _) e = omega arith
-
-    -- "no rule list": the list of a fresh reading is never full
-    pub never-full : {line : List ℕ} {m : ℕ} → Explored t limit second line m 34 → ⊥
-    never-full x = go x refl
-      where
-        go : {line : List ℕ} {m n : ℕ} → Explored t limit second line m n → n ≢ 34
-        go (shifts _ _) e = omega arith
-        go (stops _ _ c w) e = has-room (room c) w e
-        go (reads c w) e = has-room (room c) w e
-
-    number : {line : List ℕ} {m n : ℕ} → Explored t limit second line m n → Number n
-    number x = go x
-      where
-        stop : {left n : ℕ} {c : Config} → Stops t (unlisted limit second left) c n → Number n
-        stop (accepted-here _ _) = ends-well
-        stop (wrong-here _) = refuses
-        stop (no-steps _ _) = cut-short no-steps-left
-        stop (list-full _ _ _) = fills-list
-        stop (broken-here _ _ _) = cut-short broken-off
-        stop (stack-full _ _ _ _) = cut-short no-place-left
-
-        go : {line : List ℕ} {m n : ℕ} → Explored t limit second line m n → Number n
-        go (shifts _ _) = ends-well
-        go (stops _ _ c w) = stop w
-        go (reads c w) = stop w
-
-    -- each fresh reading ends
-    pub explored : (line : List ℕ) (m : ℕ) → 0 < second → (n : ℕ) × Explored t limit second line m n
-    explored line m h = go (ℕ-discrete m 0)
-      where
-        comes : {l : List ℕ} (d : Settled t second limit limit (conf (0 ∷ []) l [])) → Comes t limit second l (conf (d .states) (d .ahead) (d .productions)) (d .left)
-        comes d = record { steps = d .steps; most = d .most; path = d .path; within = d .within; budget = d .budget }
-
-        terminal : m ≢ 0 → {qs x out : List ℕ} {left n : ℕ} → Comes t limit second (line ++ m ∷ []) (conf qs x out) left
-            → Stops t (unlisted limit second left) (conf qs x out) n → (n : ℕ) × Explored t limit second line m n
-        terminal z {x = []} c w = (0, shifts z c)
-        terminal z {x = a ∷ x} {n = n} c w = (n, stops z (not-none a x) c w)
-
-        go : Dec (m ≡ 0) → (n : ℕ) × Explored t limit second line m n
-        go (yes e) = let d = settles t second limit limit 0 [] line [] h (omega arith) in rw e (d .number, reads (comes d) (d .why))
-        go (no z) = let d = settles t second limit limit 0 [] (line ++ m ∷ []) [] h (omega arith) in terminal z (comes d) (d .why)
-
-    -- where no fresh reading is cut short, the offer holds each terminal whose fresh reading does not stop on 31
-    pub offered : {line : List ℕ} {word : ℕ} → 0 < second → Offer t limit second line word → (m : ℕ) → m < terminals t → (Explored t limit second line m 31 → ⊥) → Has word m
-    offered {line} {word} h o m b z = let x = explored line m h in go (number (x .1)) (x .1)
-      where
-        go : {n : ℕ} → Number n → Explored t limit second line m n → Has word m
-        go ends-well x = o .members m .1 (b, x)
-        go refuses x = absurd (z x)
-        go fills-list x = absurd (never-full x)
-        go (cut-short c) x = absurd (o .uncut m _ b x c)
+-- where no fresh reading is cut short, the offer holds each terminal whose fresh reading does not stop on 31
+offered : {t line : List ℕ} {limit second word : ℕ} → 0 < second → Offer t limit second line word → (m : ℕ) → m < terminals t → (Explored t limit second line m 31 → ⊥) → Has word m
+offered {t} {line} {limit} {second} {word} h o m b z = let x = ends-somehow t line limit second h m in go (way (x .1)) (x .1)
+  where
+    go : {n : ℕ} → Way n → Explored t limit second line m n → Has word m
+    go found x = o .members m .1 (b, x)
+    go wrong x = absurd (z x)
+    go (cut-off c) x = absurd (o .uncut m _ b x c)
 
 -- ---- for a table that means a grammar
 
@@ -152,7 +61,7 @@ sentence-begins s = record { completion = []; whole = rw append-nil s }
 module _ (g : Grammar) (f : Formed g) (pr : AllProductive g) (li : Limits g) (t : List ℕ) (tm : TableMeans g t) where
   module _ {limit second left : ℕ} {l qs x out : List ℕ} (sl : Symbols g.terminals l) (c : Comes t limit second l (conf qs x out) left) where
     says : {n : ℕ} → Stops t (unlisted limit second left) (conf qs x out) n → Says g l x n
-    says w = go (ended g f pr li t tm sl (c .path) w (length l - length x) (λ _. omega (arith, path-unread (c .path))))
+    says w = go (ended g f pr li t tm sl (c .path) w (length l - length x) (λ _. omega (arith, path-unread t (c .path))))
       where
         go : {n : ℕ} → Ended g l (length l - length x) out n → Says g l x n
         go (sentence s _ _) = record { accepted = λ _. s; not-accepted = λ e. absurd (omega arith); not-begun = λ e. absurd (omega arith); not-broken = λ e. omega arith }
@@ -160,7 +69,7 @@ module _ (g : Grammar) (f : Formed g) (pr : AllProductive g) (li : Limits g) (t 
             record {
               accepted = λ e. absurd (omega arith);
               not-accepted = λ _. s;
-              not-begun = λ _ n b. omega (arith, some n, path-unread (c .path), end-is g l (length l - length x) p .1 (b, s));
+              not-begun = λ _ n b. omega (arith, some n, path-unread t (c .path), end-is g l (length l - length x) p .1 (b, s));
               not-broken = λ e. omega arith;
             }
         go out-32 = nothing (λ e. omega arith) (λ e. omega arith) (λ e. omega arith)
@@ -236,11 +145,3 @@ module _ (g : Grammar) (f : Formed g) (pr : AllProductive g) (li : Limits g) (t 
 
           above : {m : ℕ} → m < g.terminals → m < terminals t
           above b = rw tm.terminals-are b
-
-      -- it holds the terminals with which the line goes on to a sentence
-      pub offers-terminals : (m : ℕ) → m ≢ 0 → Has word m ↔ ((m < g.terminals) × Begins g (line ++ m ∷ []))
-      offers-terminals m z = true-offer .terminals m z
-
-      -- and 0 where the line is one
-      pub offers-end : Has word 0 ↔ Sentence g line
-      offers-end = true-offer .end

@@ -1,2 +1,2 @@
-pub mod Claim
 pub mod TrueOffer
+pub mod Claim

@@ -20,7 +20,7 @@ pub use Rattle.machine.specs.Exploration.{Comes, unlisted, Explored, shi
 use Rattle.machine.specs.ComputedRun.{Machine, Next, ended, moved, accepted, topOf, actionOf, shifted, reducedTo, reduced, movedBy, Outcome, after, run, start, withNext, fresh, freshNumber, decided, expectedWord, wordOf}
 use Rattle.machine.proofs.Checked.{Checked, Passed}
 use Rattle.machine.proofs.LrMachineLaws.{Config, conf, depth, listed, Step, Path, path-depth}
-use Rattle.machine.proofs.Settles.{Settled, settles}
+use Rattle.machine.proofs.Settles.{unread, Settled, settles}
 use Rattle.machine.proofs.Areas.{Holds, Held, held, Leads, ends-at, atEnd, counted, held-start, follows}
 use Rattle.machine.proofs.Offers.{same-members, word-members}
 
@@ -136,9 +136,6 @@ zeros n = replicate n 0
 long : (n : ℕ) → length (zeros n) ≡ n
 long n = length-replicate n 0
 
-abbrev unread : Config → ℕ
-unread (conf qs x out) = length x
-
 position-kept : (n : ℕ) (m : Machine) → atEnd n m .position ≡ m .position
 position-kept n m = ap (λ (z : Machine). z .position) (counted n m)
 
@@ -193,6 +190,24 @@ some-long (a ∷ x) n = omega arith
 next-long : (line : List ℕ) (m : ℕ) → m ≢ 0 → length (withNext line m) ≡ length line + 1
 next-long line m nz = ap length (next-is line m nz) ∙ length-append line (m ∷ [])
 
+-- each comes to an end
+pub ends-somehow : (t line : List ℕ) (a k : ℕ) → 0 < k → (m : ℕ) → (n : ℕ) × Explored t a k line m n
+ends-somehow t line a k some m = go (ℕ-discrete m 0)
+  where
+    comes : {l : List ℕ} (s : Settled t k a a (conf (0 ∷ []) l [])) → Comes t a k l (conf (s .states) (s .ahead) (s .productions)) (s .left)
+    comes s = record { steps = s .steps; most = s .most; path = s .path; within = s .within; budget = s .budget }
+
+    over : m ≢ 0 → {x : List ℕ} (s : Settled t k a a (conf (0 ∷ []) (line ++ m ∷ []) [])) → s .ahead ≡ x → (n : ℕ) × Explored t a k line m n
+    over nz {x = []} s e = let w : Comes t a k (line ++ m ∷ []) (conf (s .states) [] (s .productions)) (s .left) = rw e at (comes s) in (0, shifts nz w)
+    over nz {x = y ∷ x} s e = (s .number, stops nz (λ z. let b : _≡_ {A = List ℕ} [] (y ∷ x) = sym z ∙ e in let c : _≡_ {A = ℕ} 0 1 = cc in omega arith) (comes s) (s .why))
+
+    go : Dec (m ≡ 0) → (n : ℕ) × Explored t a k line m n
+    go (yes e) =
+        let s = settles t k a a 0 [] line [] (omega arith) (omega arith) in
+        let z : Explored t a k line 0 (s .number) = reads (comes s) (s .why) in
+        (s .number, rw e z)
+    go (no nz) = over nz (settles t k a a 0 [] (line ++ m ∷ []) [] (omega arith) (omega arith)) refl
+
 module _ (t line : List ℕ) (a k : ℕ) (ch : Checked t) (ok : inputOk t line ≡ true) (some : 0 < k) where
   pub explored-is : {m n : ℕ} → m < terminals t → Explored t a k line m n → freshNumber t a k line m ≡ n
   explored-is {m} h (shifts {left} {qs} {out} nz w) =
@@ -204,26 +219,8 @@ module _ (t line : List ℕ) (a k : ℕ) (ch : Checked t) (ok : inputOk t line �
       at-stop t line a k ch ok some m h {left = left} {c = conf qs x out} (omega (arith, e, l)) (rw (next-is line m nz) w) s
   explored-is h (reads w s) = at-stop t line a k ch ok some 0 h (omega arith) w s
 
-  -- it comes to an end
-  ends-somehow : (m : ℕ) → (n : ℕ) × Explored t a k line m n
-  ends-somehow m = go (ℕ-discrete m 0)
-    where
-      comes : {l : List ℕ} (s : Settled t k a a (conf (0 ∷ []) l [])) → Comes t a k l (conf (s .states) (s .ahead) (s .productions)) (s .left)
-      comes s = record { steps = s .steps; most = s .most; path = s .path; within = s .within; budget = s .budget }
-
-      over : m ≢ 0 → {x : List ℕ} (s : Settled t k a a (conf (0 ∷ []) (line ++ m ∷ []) [])) → s .ahead ≡ x → (n : ℕ) × Explored t a k line m n
-      over nz {x = []} s e = let w : Comes t a k (line ++ m ∷ []) (conf (s .states) [] (s .productions)) (s .left) = rw e at (comes s) in (0, shifts nz w)
-      over nz {x = y ∷ x} s e = (s .number, stops nz (λ z. let b : _≡_ {A = List ℕ} [] (y ∷ x) = sym z ∙ e in let c : _≡_ {A = ℕ} 0 1 = cc in omega arith) (comes s) (s .why))
-
-      go : Dec (m ≡ 0) → (n : ℕ) × Explored t a k line m n
-      go (yes e) =
-          let s = settles t k a a 0 [] line [] (omega arith) (omega arith) in
-          let z : Explored t a k line 0 (s .number) = reads (comes s) (s .why) in
-          (s .number, rw e z)
-      go (no nz) = over nz (settles t k a a 0 [] (line ++ m ∷ []) [] (omega arith) (omega arith)) refl
-
   pub explored : (m : ℕ) → m < terminals t → Explored t a k line m (freshNumber t a k line m)
-  explored m h = let z = ends-somehow m in rw (explored-is h (z .1)) (z .1)
+  explored m h = let z = ends-somehow t line a k some m in rw (explored-is h (z .1)) (z .1)
 
   pub explored-same : {m i j : ℕ} → m < terminals t → Explored t a k line m i → Explored t a k line m j → i ≡ j
   explored-same h v w = sym (explored-is h v) ∙ explored-is h w
