@@ -4,14 +4,253 @@ use unlisted_steps::Next;
 use unlisted_steps::Spot;
 ghost use mathlib.Core.Path.{_≡_};
 ghost use mathlib.Core.Bool.{true};
-ghost use Prim.Native.Nat.{_<_};
-ghost use lib.ListN.{length};
+ghost use mathlib.Core.List.{List};
+ghost use mathlib.Core.Logic.{_≢_, _↔_};
+ghost use Prim.Native.Nat.{ℕ, _+_, _*_, _<_, _≤_};
+ghost use lib.ListN.{length, drop};
+ghost use Rattle.sets.specs.Bit.{Has, Tells};
+ghost use Rattle.tables.specs.Layout.{terminals};
+ghost use Rattle.tables.specs.Shape.{Shaped};
 ghost use Rattle.machine.specs.Checks.{inputOk};
 ghost use Rattle.machine.proofs.Checked.{Checked};
+ghost use Rattle.unlisted_steps.specs.Spot.{Readable};
 ghost use Rattle.exploration.specs.Expected.{Explores};
+ghost use Rattle.exploration.specs.Phases.{Arrives, Short, Puts, Sorts, Passes};
 
 // The terminals that can follow, or that a fresh reading ran out of steps or places, or broke off.
 pub enum Expected {
     Known(u64),
     Cut,
+}
+
+// What comes of reading the line alone: the spot behind it, a terminal of it with no action, or a cut.
+enum Arrival {
+    Arrived(Spot),
+    Wrong,
+    Cut,
+}
+
+// Terminals by what their cells in one row ask for: a shift or acceptance, the reduction by a production, or another one.
+struct Sorted {
+    found: u64,
+    same: u64,
+    later: u64,
+    production: usize,
+}
+
+enum Sorting {
+    Into(Sorted),
+    Cut,
+}
+
+// What comes of a pass: the terminals found, and those left for a later one.
+enum Passed {
+    Over { found: u64, later: u64 },
+    Wrong,
+    Cut,
+}
+
+// All n terminals.
+fn all(n: usize) -> u64
+    requires { ⌜ (0 < n) × (n ≤ 64) ⌝ }
+    ensures { λ r. ⌜ ((m : ℕ) → Has r m ↔ (m < n)) ⌝ }
+{
+    18446744073709551615 >> (64 - n)
+}
+
+// Reads the line alone, from state 0.
+fn arrive(
+    table: &[u16],
+    cells: &[u16],
+    line: &[u8],
+    second: &mut [u16],
+    z: Shape,
+    step_limit: u64,
+) -> Arrival
+    requires { ⌜ (Readable (now table) (now cells) z) × (inputOk (now table) (now line) ≡ true) × (0 < length (now second)) ⌝ }
+    ensures { λ r. ⌜ Arrives (now (table .entry)) «step_limit» (length (now (second .entry))) (now (line .entry)) (now (second .exit)) r ⌝ }
+{
+    second[0] = 0;
+    let mut s = Spot {
+        depth: 1,
+        left: step_limit,
+        top: 0,
+    };
+    let mut i: usize = 0;
+    while i < line.len() {
+        let a = tables::cell_at(cells, line[i] as usize, s.top * z.width) as usize;
+        if a == 0 {
+            return Arrival::Wrong;
+        }
+        if s.left == 0 {
+            return Arrival::Cut;
+        }
+        if a < 1024 {
+            let n = unlisted_steps::shift(second, s, a);
+            let Next::Moved(t) = n else {
+                return Arrival::Cut;
+            };
+            s = t;
+            i += 1;
+        } else {
+            let n = unlisted_steps::reduce(table, cells, second, z, s, a - 1024);
+            let Next::Moved(t) = n else {
+                return Arrival::Cut;
+            };
+            s = t;
+        }
+    }
+    Arrival::Arrived(s)
+}
+
+// Whether the action a cannot be made for want of a step, or as a shift for want of a place.
+fn short(s: Spot, places: usize, a: usize) -> bool
+    ensures { λ r. ⌜ Tells r (Short s places a) ⌝ }
+{
+    if s.left == 0 {
+        true
+    } else if a < 1024 {
+        places <= s.depth
+    } else {
+        false
+    }
+}
+
+// The terminal m, whose action is a, put to the others.
+fn put(r: Sorted, m: u32, a: usize) -> Sorted
+    requires { ⌜ m < 64 ⌝ }
+    ensures { λ x. ⌜ Puts r m a x ⌝ }
+{
+    if a < 1024 {
+        return Sorted {
+            found: sets::with(r.found, m),
+            same: r.same,
+            later: r.later,
+            production: r.production,
+        };
+    }
+    if a == 4096 {
+        return Sorted {
+            found: sets::with(r.found, m),
+            same: r.same,
+            later: r.later,
+            production: r.production,
+        };
+    }
+    if r.same == 0 {
+        return Sorted {
+            found: r.found,
+            same: sets::with(0, m),
+            later: r.later,
+            production: a - 1024,
+        };
+    }
+    if r.production == a - 1024 {
+        return Sorted {
+            found: r.found,
+            same: sets::with(r.same, m),
+            later: r.later,
+            production: r.production,
+        };
+    }
+    Sorted {
+        found: r.found,
+        same: r.same,
+        later: sets::with(r.later, m),
+        production: r.production,
+    }
+}
+
+// Sorts the terminals of a group by the row of the top state.
+fn sort(cells: &[u16], z: Shape, s: Spot, places: usize, group: u64) -> Sorting
+    requires { ⌜ (s .top * z .width + z .terminals ≤ length (now cells)) × ((m : ℕ) → Has group m → m < z .terminals) ⌝ }
+    ensures { λ r. ⌜ ((t : List ℕ) → Shaped t z → now (cells .entry) ≡ drop (z .cells) t → Sorts t s places group r) ⌝ }
+{
+    let row = s.top * z.width;
+    let mut r = Sorted {
+        found: 0,
+        same: 0,
+        later: 0,
+        production: 0,
+    };
+    let mut g = group;
+    while g != 0 {
+        let m = sets::lowest(g);
+        let a = tables::cell_at(cells, row, m as usize) as usize;
+        if a != 0 {
+            if short(s, places, a) {
+                return Sorting::Cut;
+            }
+            r = put(r, m, a);
+        }
+        g = sets::rest(g);
+    }
+    Sorting::Into(r)
+}
+
+// Reads the line anew, and goes on for the terminals of todo as long as one reduction serves some of them.
+fn pass(
+    table: &[u16],
+    cells: &[u16],
+    line: &[u8],
+    second: &mut [u16],
+    z: Shape,
+    step_limit: u64,
+    todo: u64,
+) -> Passed
+    requires { ⌜ (Readable (now table) (now cells) z) × (inputOk (now table) (now line) ≡ true) × (0 < length (now second)) × ((m : ℕ) → Has todo m → m < terminals (now table)) ⌝ }
+    ensures { λ r. ⌜ Passes (now (table .entry)) «step_limit» (length (now (second .entry))) (now (line .entry)) todo r ⌝ }
+{
+    let mut s = match arrive(table, cells, line, second, z, step_limit) {
+        Arrival::Arrived(s) => s,
+        Arrival::Wrong => return Passed::Wrong,
+        Arrival::Cut => return Passed::Cut,
+    };
+    let mut group = todo;
+    let mut found: u64 = 0;
+    let mut later: u64 = 0;
+    loop {
+        let n = sort(cells, z, s, second.len(), group);
+        let Sorting::Into(x) = n else {
+            return Passed::Cut;
+        };
+        found = sets::join(found, x.found);
+        later = sets::join(later, x.later);
+        if x.same == 0 {
+            return Passed::Over { found, later };
+        }
+        let n = unlisted_steps::reduce(table, cells, second, z, s, x.production);
+        let Next::Moved(t) = n else {
+            return Passed::Cut;
+        };
+        s = t;
+        group = x.same;
+    }
+}
+
+// Which terminals can follow the line, by fresh readings in the second area.
+pub fn explore(table: &[u16], line: &[u8], second: &mut [u16], step_limit: u64) -> Expected
+    requires { ⌜ (Checked (now table)) × (inputOk (now table) (now line) ≡ true) × (0 < length (now second)) ⌝ }
+    ensures { λ r. ⌜ Explores (now (table .entry)) «step_limit» (length (now (second .entry))) (now (line .entry)) r ⌝ }
+{
+    let z = tables::shape_of(table);
+    let cells = tables::cells_of(table, z);
+    let mut todo = all(z.terminals);
+    let mut found: u64 = 0;
+    while todo != 0 {
+        let n = pass(table, cells, line, second, z, step_limit, todo);
+        match n {
+            Passed::Over { found: f, later } => {
+                found = sets::join(found, f);
+                todo = later;
+            }
+            Passed::Wrong => {
+                return Expected::Known(0);
+            }
+            Passed::Cut => {
+                return Expected::Cut;
+            }
+        }
+    }
+    Expected::Known(found)
 }

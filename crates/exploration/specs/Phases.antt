@@ -1,0 +1,88 @@
+-- What the parts of an exploration hand on to each other. Only private functions cite this.
+use Prim.Native.Nat.{ℕ, _+_, _-_, _^_, _<_, _≤_}
+use mathlib.Core.Path.{_≡_}
+use mathlib.Core.Logic.{_≢_}
+use mathlib.Core.List.{List, [], _∷_, _++_}
+use lib.ListN.{length}
+use lib.Bits.{bitOr}
+use Rattle.sets.specs.Bit.{Has}
+use Rattle.tables.specs.Layout.{terminals, cellOf, reduction, accept}
+use Rattle.machine.specs.LrMachine.{conf}
+use Rattle.machine.specs.Exploration.{Comes, Explored, CutShort}
+use Rattle.unlisted_steps.specs.Spot.{Stands}
+use Rattle.unlisted_steps.specs.declared.Spot.{Spot}
+use Rattle.exploration.specs.declared.Arrival.{Arrival}
+use Rattle.exploration.specs.declared.Arrival.the-variants.{Arrived, Wrong, Cut}
+use Rattle.exploration.specs.declared.Sorted.{Sorted}
+use Rattle.exploration.specs.declared.Sorting.{Sorting}
+use Rattle.exploration.specs.declared.Sorting.the-variants as sorting
+use Rattle.exploration.specs.declared.Passed.{Passed}
+use Rattle.exploration.specs.declared.Passed.the-variants as passed
+
+-- every reading of the line and whatever follows it comes to the spot s, with the terminals ahead of the line still to be read; st is the second area there
+pub record Reaches (t : List ℕ) (limit places : ℕ) (line st ahead : List ℕ) (s : Spot) : Type 0 where
+  pub state : ℕ
+  pub under : List ℕ
+  pub listed : List ℕ
+  pub long : length st ≡ places
+  pub stands : Stands t st s state under
+  pub comes : (y : List ℕ) → Comes t limit places (line ++ y) (conf (state ∷ under) (ahead ++ y) listed) (s .left)
+
+-- no terminal can follow: each fresh reading ends in 31
+abbrev pub NoneFollows : List ℕ → ℕ → ℕ → List ℕ → Type 0
+NoneFollows t limit places line = (m : ℕ) → m < terminals t → Explored t limit places line m 31
+
+-- what comes of reading the line alone; st is the second area then
+abbrev pub Arrives : List ℕ → ℕ → ℕ → List ℕ → List ℕ → Arrival → Type 0
+Arrives t limit places line st (Arrived s) = Reaches t limit places line st [] s
+Arrives t limit places line st Wrong = NoneFollows t limit places line
+Arrives t limit places line st Cut = CutShort t limit places line
+
+-- no step is left for the action a, or no place for it as a shift
+pub data Short (s : Spot) (places a : ℕ) : Type 0 where
+  no-steps : s .left ≡ 0 → Short s places a
+  no-place : 0 < s .left → a < 1024 → places ≤ s .depth → Short s places a
+
+-- the terminal m with the action a, which is not 0, is put to the others
+pub data Puts (r : Sorted) (m a : ℕ) : Sorted → Type 0 where
+  shifts : a < 1024 → Puts r m a (record { found = bitOr (r .found) (2 ^ m); same = r .same; later = r .later; production = r .production })
+  accepts : a ≡ accept → Puts r m a (record { found = bitOr (r .found) (2 ^ m); same = r .same; later = r .later; production = r .production })
+  first : 1024 ≤ a → a ≢ accept → r .same ≡ 0 → Puts r m a (record { found = r .found; same = bitOr 0 (2 ^ m); later = r .later; production = a - 1024 })
+  again : 1024 ≤ a → a ≢ accept → r .production ≡ a - 1024 → Puts r m a (record { found = r .found; same = bitOr (r .same) (2 ^ m); later = r .later; production = r .production })
+  -- behind one that asks for another reduction
+  aside : (j : ℕ) → Has (r .same) j → Puts r m a (record { found = r .found; same = r .same; later = bitOr (r .later) (2 ^ m); production = r .production })
+
+-- the action of m can be made, and ends its fresh reading well
+pub data Found (t : List ℕ) (s : Spot) (places m : ℕ) : Type 0 where
+  shifts : 0 < s .left → 0 < cellOf t (s .top) m → cellOf t (s .top) m < 1024 → s .depth < places → Found t s places m
+  accepts : 0 < s .left → cellOf t (s .top) m ≡ accept → Found t s places m
+
+-- the terminals of a group by their cells in the row of the top state
+pub record Apart (t : List ℕ) (s : Spot) (places group : ℕ) (r : Sorted) : Type 0 where
+  pub ends : (m : ℕ) → Has (r .found) m → Has group m × Found t s places m
+  pub asks : (m : ℕ) → Has (r .same) m → Has group m × (0 < s .left) × (cellOf t (s .top) m ≡ reduction (r .production)) × (reduction (r .production) ≢ accept)
+  -- never the lowest
+  pub behind : (m : ℕ) → Has (r .later) m → Has group m × (j : ℕ) × (j < m) × Has group j
+  pub none : (m : ℕ) → Has group m → (Has (r .found) m → ⊥) → (Has (r .same) m → ⊥) → (Has (r .later) m → ⊥) → cellOf t (s .top) m ≡ 0
+
+-- the action of a terminal of the group cannot be made
+pub record Stuck (t : List ℕ) (s : Spot) (places group : ℕ) : Type 0 where
+  pub terminal : ℕ
+  pub member : Has group terminal
+  pub some : cellOf t (s .top) terminal ≢ 0
+  pub why : Short s places (cellOf t (s .top) terminal)
+
+abbrev pub Sorts : List ℕ → Spot → ℕ → ℕ → Sorting → Type 0
+Sorts t s places group (sorting.Into r) = Apart t s places group r
+Sorts t s places group sorting.Cut = Stuck t s places group
+
+-- a pass decides each terminal of todo or leaves it, and never leaves the lowest
+pub record Decides (t : List ℕ) (limit places : ℕ) (line : List ℕ) (todo found later : ℕ) : Type 0 where
+  pub offered : (m : ℕ) → Has found m → Has todo m × Explored t limit places line m 0
+  pub behind : (m : ℕ) → Has later m → Has todo m × (j : ℕ) × (j < m) × Has todo j
+  pub left-out : (m : ℕ) → Has todo m → (Has found m → ⊥) → (Has later m → ⊥) → Explored t limit places line m 31
+
+abbrev pub Passes : List ℕ → ℕ → ℕ → List ℕ → ℕ → Passed → Type 0
+Passes t limit places line todo (passed.Over found later) = Decides t limit places line todo found later
+Passes t limit places line todo passed.Wrong = NoneFollows t limit places line
+Passes t limit places line todo passed.Cut = CutShort t limit places line
