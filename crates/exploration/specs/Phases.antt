@@ -6,7 +6,7 @@ use mathlib.Core.List.{List, [], _∷_, _++_}
 use lib.ListN.{length}
 use lib.Bits.{bitOr}
 use Rattle.sets.specs.Bit.{Has}
-use Rattle.tables.specs.Layout.{terminals, cellOf, reduction, accept}
+use Rattle.tables.specs.Layout.{terminals, reduction, accept}
 use Rattle.machine.specs.LrMachine.{conf}
 use Rattle.machine.specs.Exploration.{Comes, Explored, CutShort}
 use Rattle.unlisted_steps.specs.Spot.{Stands}
@@ -52,29 +52,29 @@ pub data Puts (r : Sorted) (m a : ℕ) : Sorted → Type 0 where
   -- behind one that asks for another reduction
   aside : (j : ℕ) → Has (r .same) j → Puts r m a (record { found = r .found; same = r .same; later = bitOr (r .later) (2 ^ m); production = r .production })
 
--- the action of m can be made, and ends its fresh reading well
-pub data Found (t : List ℕ) (s : Spot) (places m : ℕ) : Type 0 where
-  shifts : 0 < s .left → 0 < cellOf t (s .top) m → cellOf t (s .top) m < 1024 → s .depth < places → Found t s places m
-  accepts : 0 < s .left → cellOf t (s .top) m ≡ accept → Found t s places m
+-- the action a can be made, and ends a fresh reading well
+pub data Found (s : Spot) (places a : ℕ) : Type 0 where
+  shifts : 0 < s .left → 0 < a → a < 1024 → s .depth < places → Found s places a
+  accepts : 0 < s .left → a ≡ accept → Found s places a
 
 -- the terminals of a group by their cells in the row of the top state
-pub record Apart (t : List ℕ) (s : Spot) (places group : ℕ) (r : Sorted) : Type 0 where
-  pub ends : (m : ℕ) → Has (r .found) m → Has group m × Found t s places m
-  pub asks : (m : ℕ) → Has (r .same) m → Has group m × (0 < s .left) × (cellOf t (s .top) m ≡ reduction (r .production)) × (reduction (r .production) ≢ accept)
+pub record Apart (row : ℕ → ℕ) (s : Spot) (places group : ℕ) (r : Sorted) : Type 0 where
+  pub ends : (m : ℕ) → Has (r .found) m → Has group m × Found s places (row m)
+  pub asks : (m : ℕ) → Has (r .same) m → Has group m × (0 < s .left) × (row m ≡ reduction (r .production)) × (reduction (r .production) ≢ accept)
   -- never the lowest
   pub behind : (m : ℕ) → Has (r .later) m → Has group m × (j : ℕ) × (j < m) × Has group j
-  pub none : (m : ℕ) → Has group m → (Has (r .found) m → ⊥) → (Has (r .same) m → ⊥) → (Has (r .later) m → ⊥) → cellOf t (s .top) m ≡ 0
+  pub none : (m : ℕ) → Has group m → (Has (r .found) m → ⊥) → (Has (r .same) m → ⊥) → (Has (r .later) m → ⊥) → row m ≡ 0
 
 -- the action of a terminal of the group cannot be made
-pub record Stuck (t : List ℕ) (s : Spot) (places group : ℕ) : Type 0 where
+pub record Stuck (row : ℕ → ℕ) (s : Spot) (places group : ℕ) : Type 0 where
   pub terminal : ℕ
   pub member : Has group terminal
-  pub some : cellOf t (s .top) terminal ≢ 0
-  pub why : Short s places (cellOf t (s .top) terminal)
+  pub some : row terminal ≢ 0
+  pub why : Short s places (row terminal)
 
-abbrev pub Sorts : List ℕ → Spot → ℕ → ℕ → Sorting → Type 0
-Sorts t s places group (sorting.Into r) = Apart t s places group r
-Sorts t s places group sorting.Cut = Stuck t s places group
+abbrev pub Sorts : (ℕ → ℕ) → Spot → ℕ → ℕ → Sorting → Type 0
+Sorts row s places group (sorting.Into r) = Apart row s places group r
+Sorts row s places group sorting.Cut = Stuck row s places group
 
 -- a pass decides each terminal of todo or leaves it, and never leaves the lowest
 pub record Decides (t : List ℕ) (limit places : ℕ) (line : List ℕ) (todo found later : ℕ) : Type 0 where

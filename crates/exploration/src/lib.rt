@@ -4,13 +4,11 @@ use unlisted_steps::Next;
 use unlisted_steps::Spot;
 ghost use mathlib.Core.Path.{_≡_};
 ghost use mathlib.Core.Bool.{true};
-ghost use mathlib.Core.List.{List};
-ghost use mathlib.Core.Logic.{_≢_, _↔_};
+ghost use mathlib.Core.Logic.{_↔_};
 ghost use Prim.Native.Nat.{ℕ, _+_, _*_, _<_, _≤_};
-ghost use lib.ListN.{length, drop};
+ghost use lib.ListN.{length, getD};
 ghost use Rattle.sets.specs.Bit.{Has, Tells};
 ghost use Rattle.tables.specs.Layout.{terminals};
-ghost use Rattle.tables.specs.Shape.{Shaped};
 ghost use Rattle.machine.specs.Checks.{inputOk};
 ghost use Rattle.machine.proofs.Checked.{Checked};
 ghost use Rattle.unlisted_steps.specs.Spot.{Readable};
@@ -121,50 +119,32 @@ fn put(r: Sorted, m: u32, a: usize) -> Sorted
     requires { ⌜ m < 64 ⌝ }
     ensures { λ x. ⌜ Puts r m a x ⌝ }
 {
+    let mut x = r;
     if a < 1024 {
-        return Sorted {
-            found: sets::with(r.found, m),
-            same: r.same,
-            later: r.later,
-            production: r.production,
-        };
+        x.found = sets::with(r.found, m);
+        return x;
     }
     if a == 4096 {
-        return Sorted {
-            found: sets::with(r.found, m),
-            same: r.same,
-            later: r.later,
-            production: r.production,
-        };
+        x.found = sets::with(r.found, m);
+        return x;
     }
     if r.same == 0 {
-        return Sorted {
-            found: r.found,
-            same: sets::with(0, m),
-            later: r.later,
-            production: a - 1024,
-        };
+        x.same = sets::with(0, m);
+        x.production = a - 1024;
+        return x;
     }
     if r.production == a - 1024 {
-        return Sorted {
-            found: r.found,
-            same: sets::with(r.same, m),
-            later: r.later,
-            production: r.production,
-        };
+        x.same = sets::with(r.same, m);
+        return x;
     }
-    Sorted {
-        found: r.found,
-        same: r.same,
-        later: sets::with(r.later, m),
-        production: r.production,
-    }
+    x.later = sets::with(r.later, m);
+    x
 }
 
 // Sorts the terminals of a group by the row of the top state.
 fn sort(cells: &[u16], z: Shape, s: Spot, places: usize, group: u64) -> Sorting
     requires { ⌜ (s .top * z .width + z .terminals ≤ length (now cells)) × ((m : ℕ) → Has group m → m < z .terminals) ⌝ }
-    ensures { λ r. ⌜ ((t : List ℕ) → Shaped t z → now (cells .entry) ≡ drop (z .cells) t → Sorts t s places group r) ⌝ }
+    ensures { λ r. ⌜ Sorts (λ m. getD (now (cells .entry)) (s .top * z .width + m) 0) s places group r ⌝ }
 {
     let row = s.top * z.width;
     let mut r = Sorted {

@@ -1,61 +1,40 @@
+use Rattle.exploration.specs.Phases.{Puts}
+use Rattle.exploration.proofs.Words.{lowest-member}
+use native.Mathlib.Omega.{arith}
 use borrow.Author.Needs.{needs}
 use Rattle.exploration.proofs.put.Statement.{statement}
 use Rattle.exploration.proofs.put.Tie as tie
-use Rattle.exploration.proofs.put.Reads as reads
-use Rattle.exploration.proofs.put.Lts as lts
-use Rattle.sets.proofs.with.Reads as with-reads
 
--- src/lib.rt:126:20
-with-requires : tie.Need-with-requires
-with-requires c κs = search needs
-
--- src/lib.rt:125:9
 returns : tie.Need-returns
-returns c = ?
+returns c = rw (c .with .ensures) (Puts.shifts (c .before .if1 .taken))
 
--- src/lib.rt:134:20
-with-requires-2 : tie.Need-with-requires-2
-with-requires-2 c κs = search needs
-
--- src/lib.rt:133:9
 returns-2 : tie.Need-returns-2
-returns-2 c = ?
+returns-2 c = rw (c .with2 .ensures) (Puts.accepts (c .before .if2 .taken))
 
--- src/lib.rt:143:19
-with-requires-3 : tie.Need-with-requires-3
-with-requires-3 c κs = search needs
-
--- src/lib.rt:141:9
 returns-3 : tie.Need-returns-3
-returns-3 c = ?
+returns-3 c = rw (c .with3 .ensures) (Puts.first (c .before .before .before .before .if1 .left) (c .before .before .before .if2 .left) (c .before .if3 .taken))
 
--- src/lib.rt:151:19
-with-requires-4 : tie.Need-with-requires-4
-with-requires-4 c κs = search needs
-
--- src/lib.rt:149:9
 returns-4 : tie.Need-returns-4
-returns-4 c = ?
+returns-4 c =
+    let b5 = c .before .before .before .before .before in
+    rw (c .with4 .ensures) (Puts.again (b5 .before .if1 .left) (b5 .if2 .left) (c .before .if4 .taken))
 
--- src/lib.rt:159:16
-with-requires-5 : tie.Need-with-requires-5
-with-requires-5 c κs = search needs
-
--- src/lib.rt:120:1
 returns-5 : tie.Need-returns-5
-returns-5 c = ?
+returns-5 c =
+    let b3 = c .before .before .before in
+    rw (c .with5 .ensures) (Puts.aside _ (lowest-member (omega (arith, b3 .if3 .left)) (search needs)))
 
 pub put-spec : {M : Type 1} → statement M
 put-spec =
     tie.close
     (tie.spec
-    with-requires
+    (λ c κs. search needs)
     returns
-    with-requires-2
+    (λ c κs. search needs)
     returns-2
-    with-requires-3
+    (λ c κs. search needs)
     returns-3
-    with-requires-4
+    (λ c κs. search needs)
     returns-4
-    with-requires-5
+    (λ c κs. search needs)
     returns-5)
