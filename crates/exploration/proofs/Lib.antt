@@ -1,3 +1,6 @@
 pub mod Fresh
 pub mod Words
 pub mod Sorts
+pub mod Moves
+pub mod Cells
+pub mod Arrives

@@ -38,11 +38,11 @@ module _ (s : Spot) (places a : ℕ) where
   -- what is left where it is not short
   pub long-enough : {b : Bool} → Tells b (Short s places a) → b ≡ false → (0 < s .left) × (a < 1024 → s .depth < places)
   long-enough {b} t e =
-      let more : 0 < s .left = ⊎-elim (λ z. absurd (no (no-steps z))) (λ n. omega (arith, n)) (eq-or (s .left) 0) in
-      (more, λ h. ⊎-elim (λ (l : s .depth < places). l) (λ (l : places ≤ s .depth). absurd (no (no-place more h l))) (lt-or-ge (s .depth) places))
+      let more : 0 < s .left = ⊎-elim (λ z. absurd (never (no-steps z))) (λ n. omega (arith, n)) (eq-or (s .left) 0) in
+      (more, λ h. ⊎-elim (λ (l : s .depth < places). l) (λ (l : places ≤ s .depth). absurd (never (no-place more h l))) (lt-or-ge (s .depth) places))
     where
-      no : Short s places a → ⊥
-      no x = false≢true (sym e ∙ t .so x)
+      never : Short s places a → ⊥
+      never x = false≢true (sym e ∙ t .so x)
 
 -- ---- the loop
 
