@@ -53,16 +53,17 @@ module _ {t line st ahead : List ℕ} {limit places x : ℕ} {s : Spot} (pa : Ch
     shift-next : {a : ℕ} {y : Next} {n : Spot} → cellOf t (r .state) x ≡ a → 0 < a → a < 1024 → Shifts t st′ s (r .state) (r .under) a y → y ≡ Moved n
         → Reaches t limit places line st′ ahead n × (n .left < s .left)
     shift-next {a} e h k d ey =
-        let z = shifted d ey in
-        (record {
-          state = a;
-          under = r .state ∷ r .under;
-          listed = r .listed;
-          long = long ∙ r .long;
-          stands = z .0;
-          comes = λ y. shift-comes s (r .comes y) (long ∙ r .long) e h k (z .0) (z .1);
-        },
-        omega (arith, z .1))
+        let z = shifted d ey in (
+          record {
+            state = a;
+            under = r .state ∷ r .under;
+            listed = r .listed;
+            long = long ∙ r .long;
+            stands = z .0;
+            comes = λ y. shift-comes s (r .comes y) (long ∙ r .long) e h k (z .0) (z .1);
+          },
+          omega (arith, z .1),
+        )
 
     shift-cut : {a : ℕ} {y : Next} → cellOf t (r .state) x ≡ a → 0 < a → a < 1024 → Shifts t st′ s (r .state) (r .under) a y → ((n : Spot) → y ≡ Moved n → ⊥) → CutShort t limit places line
     shift-cut e h k d nm = let w = shift-stops s (r .comes []) (long ∙ r .long) e h k more d nm in cut-here (w .stops) (w .cut)
@@ -70,16 +71,17 @@ module _ {t line st ahead : List ℕ} {limit places x : ℕ} {s : Spot} (pa : Ch
     reduce-next : {p : ℕ} {y : Next} {n : Spot} → cellOf t (r .state) x ≡ reduction p → reduction p ≢ accept → Reduces t st′ s (r .state) (r .under) p y → y ≡ Moved n
         → Reaches t limit places line st′ (x ∷ ahead) n × (n .left < s .left)
     reduce-next {p} e ne d ey =
-        let z = reduced d ey in
-        (record {
-          state = _;
-          under = z .under ∷ z .below;
-          listed = r .listed ++ p ∷ [];
-          long = long ∙ r .long;
-          stands = z .stands;
-          comes = λ y. reduce-comes s (r .comes y) (long ∙ r .long) e ne z;
-        },
-        omega (arith, z .less))
+        let z = reduced d ey in (
+          record {
+            state = _;
+            under = z .under ∷ z .below;
+            listed = r .listed ++ p ∷ [];
+            long = long ∙ r .long;
+            stands = z .stands;
+            comes = λ y. reduce-comes s (r .comes y) (long ∙ r .long) e ne z;
+          },
+          omega (arith, z .less),
+        )
 
     reduce-cut : {p : ℕ} {y : Next} → cellOf t (r .state) x ≡ reduction p → reduction p ≢ accept → Reduces t st′ s (r .state) (r .under) p y → ((n : Spot) → y ≡ Moved n → ⊥) → CutShort t limit places line
     reduce-cut e ne d nm = let w = reduce-stops s (r .comes []) (long ∙ r .long) e ne more d nm in cut-here (w .stops) (w .cut)

@@ -4,3 +4,4 @@ pub mod Sorts
 pub mod Moves
 pub mod Cells
 pub mod Arrives
+pub mod Passes

@@ -1,115 +1,107 @@
+use mathlib.Core.Path.{_∙_}
+use native.Mathlib.Omega.{arith}
+use lib.ListN.{length}
+use Rattle.exploration.proofs.Moves.{not-moved}
+use Rattle.exploration.proofs.Passes.{Passing, passing-start, pass-over, sort-asks, pass-stuck, pass-asks, pass-goes, pass-cut}
+use borrow.Author.Needs.{needs}
 use Rattle.exploration.proofs.pass.Statement.{statement}
 use Rattle.exploration.proofs.pass.Tie as tie
-use Rattle.exploration.proofs.pass.Reads as reads
-use Rattle.exploration.proofs.pass.Lts as lts
-use Rattle.exploration.proofs.arrive.Reads as arrive-reads
-use Rattle.exploration.proofs.sort.Reads as sort-reads
-use Rattle.sets.proofs.join.Reads as join-reads
-use Rattle.unlisted_steps.proofs.reduce.Reads as reduce-reads
 
 abbrev Inv-loop : tie.InvT-loop
 Inv-loop table cells line second₀ z step-limit todo s₀ group₀ found₀ later₀ second s group found later =
-    ?
+    Passing table step-limit (length second₀) line todo second s group found later
 
 abbrev μ-loop : tie.MeasureT-loop
-μ-loop table cells line second₀ z step-limit todo s₀ group₀ found₀ later₀ second s group found later =
-    ?
+μ-loop table cells line second₀ z step-limit todo s₀ group₀ found₀ later₀ second s group found later = s .left
 
--- src/lib.rt:186:23
 arrive-requires : tie.Need-arrive-requires Inv-loop μ-loop
-arrive-requires c κs = ?
+arrive-requires c κs = let b = c .before .before .before .before .before in (b .pre .0, b .pre .1, b .pre .2)
 
--- src/lib.rt:187:26
-enum-known-s : tie.Need-enum-known-s Inv-loop μ-loop
-enum-known-s c = ?
-
--- src/lib.rt:188:27
-enum-told : tie.Need-enum-told Inv-loop μ-loop
-enum-told c = ?
-
--- src/lib.rt:188:27
-same-length : tie.Need-same-length Inv-loop μ-loop
-same-length c = ?
-
--- src/lib.rt:188:27
 returns : tie.Need-returns Inv-loop μ-loop
-returns c = ?
+returns c = rw (c .enum-told .given .1) at (c .before .before .before .before .arrive .ensures)
 
--- src/lib.rt:189:25
-enum-told-2 : tie.Need-enum-told-2 Inv-loop μ-loop
-enum-told-2 c = ?
-
--- src/lib.rt:189:25
-same-length-2 : tie.Need-same-length-2 Inv-loop μ-loop
-same-length-2 c = ?
-
--- src/lib.rt:189:25
 returns-2 : tie.Need-returns-2 Inv-loop μ-loop
-returns-2 c = ?
+returns-2 c = rw (c .enum-told2 .given .1) at (c .before .before .before .before .arrive .ensures)
 
--- src/lib.rt:194:5
 loop-holds : tie.Need-loop-holds Inv-loop μ-loop
-loop-holds c = ?
+loop-holds c = passing-start _ (rw (c .before .s .given .1) at (c .before .before .before .before .before .arrive .ensures))
 
--- src/lib.rt:195:13
 sort-requires : tie.Need-sort-requires Inv-loop μ-loop
-sort-requires c κs = ?
+sort-requires c κs =
+    let b6 = c .before .before .before .before .before .before in
+    let pre = b6 .before .before .before .before .before .before .pre in
+    sort-asks (pre .0) (pre .3) (c .loop .inv)
 
--- src/lib.rt:196:27
-enum-known-n : tie.Need-enum-known-n Inv-loop μ-loop
-enum-known-n c = ?
-
--- src/lib.rt:197:13
-enum-told-3 : tie.Need-enum-told-3 Inv-loop μ-loop
-enum-told-3 c = ?
-
--- src/lib.rt:197:13
 same-length-3 : tie.Need-same-length-3 Inv-loop μ-loop
-same-length-3 c = ?
+same-length-3 c = let b3 = c .before .before .before in b3 .loop .inv .long ∙ b3 .before .before .before .before .before .before .arrive .kept .1 .1 .1 .0
 
--- src/lib.rt:197:13
 returns-3 : tie.Need-returns-3 Inv-loop μ-loop
-returns-3 c = ?
+returns-3 c =
+    let b3 = c .before .before .before in
+    let b9 = b3 .before .before .before .before .before .before in
+    let pre = b9 .before .before .before .before .before .before .pre in
+    rw (b9 .arrive .kept .1 .1 .1 .0) at (pass-stuck (pre .0) (pre .3) (b3 .loop .inv) (rw (c .enum-told3 .given .1) at (c .before .before .sort .ensures)))
 
--- src/lib.rt:199:9
-join-requires : tie.Need-join-requires Inv-loop μ-loop
-join-requires c κs = ?
-
--- src/lib.rt:200:9
-join-requires-2 : tie.Need-join-requires-2 Inv-loop μ-loop
-join-requires-2 c κs = ?
-
--- src/lib.rt:202:13
 same-length-4 : tie.Need-same-length-4 Inv-loop μ-loop
-same-length-4 c = ?
+same-length-4 c =
+    let b8 = c .before .before .before .before .before .before .before .before in
+    b8 .loop .inv .long ∙ b8 .before .before .before .before .before .before .arrive .kept .1 .1 .1 .0
 
--- src/lib.rt:202:13
 returns-4 : tie.Need-returns-4 Inv-loop μ-loop
-returns-4 c = ?
+returns-4 c =
+    let b3 = c .before .before .before in
+    let b8 = b3 .before .before .before .before .before in
+    let b14 = b8 .before .before .before .before .before .before in
+    let pre = b14 .before .before .before .before .before .before .pre in
+    rw (b14 .arrive .kept .1 .1 .1 .0) at
+    (pass-over (pre .0) (pre .3) (b8 .loop .inv) (rw (b3 .before .before .n .given .1) at (b3 .before .before .before .before .sort .ensures)) (b3 .join .ensures) (c .before .before .join2 .ensures)
+    (c .if1 .taken))
 
--- src/lib.rt:204:13
 reduce-requires : tie.Need-reduce-requires Inv-loop μ-loop
-reduce-requires c κs = ?
+reduce-requires c κs =
+    let b4 = c .before .before .before .before in
+    let b9 = b4 .before .before .before .before .before in
+    let b15 = b9 .before .before .before .before .before .before in
+    let pre = b15 .before .before .before .before .before .before .pre in
+    pass-asks (pre .0) (pre .3) (b9 .loop .inv) (rw (b4 .before .before .n .given .1) at (b4 .before .before .before .before .sort .ensures)) (b4 .join .ensures) (c .before .before .before .join2 .ensures)
+    (c .before .if1 .left) (search needs)
 
--- src/lib.rt:205:25
-enum-known-n-2 : tie.Need-enum-known-n-2 Inv-loop μ-loop
-enum-known-n-2 c = ?
-
--- src/lib.rt:206:13
 same-length-5 : tie.Need-same-length-5 Inv-loop μ-loop
-same-length-5 c = ?
+same-length-5 c =
+    let b6 = c .before .before .before .before .before .before in
+    let b13 = b6 .before .before .before .before .before .before .before in
+    c .before .before .before .reduce .kept .1 .1 .0 ∙ b13 .loop .inv .long ∙ b13 .before .before .before .before .before .before .arrive .kept .1 .1 .1 .0
 
--- src/lib.rt:206:13
 returns-5 : tie.Need-returns-5 Inv-loop μ-loop
-returns-5 c = ?
+returns-5 c =
+    let b3 = c .before .before .before in
+    let b8 = b3 .before .before .before .before .before in
+    let b13 = b8 .before .before .before .before .before in
+    let b19 = b13 .before .before .before .before .before .before in
+    let pre = b19 .before .before .before .before .before .before .pre in
+    rw (b19 .arrive .kept .1 .1 .1 .0) at
+    (pass-cut (pre .0) (pre .3) (b13 .loop .inv) (rw (b8 .before .before .n .given .1) at (b8 .before .before .before .before .sort .ensures)) (b8 .join .ensures) (b3 .before .before .before .before .join2 .ensures)
+    (b3 .before .before .if1 .left) (omega (arith, b3 .before .before .before .struct-known .given)) (b3 .reduce .kept .1 .1 .0) (b3 .reduce .ensures) (not-moved _ (c .match3 .keys2)))
 
--- src/lib.rt:194:5
 loop-less : tie.Need-loop-less Inv-loop μ-loop
-loop-less c = ?
+loop-less c =
+    let b5 = c .before .before .before .before .before in
+    let b10 = b5 .before .before .before .before .before in
+    let b15 = b10 .before .before .before .before .before in
+    let b21 = b15 .before .before .before .before .before .before in
+    let pre = b21 .before .before .before .before .before .before .pre in
+    pass-goes (pre .0) (pre .3) (b15 .loop .inv) (rw (b10 .before .before .n .given .1) at (b10 .before .before .before .before .sort .ensures)) (b10 .join .ensures) (b5 .before .before .before .before .join2 .ensures)
+    (b5 .before .before .if1 .left) (omega (arith, b5 .before .before .before .struct-known .given)) (b5 .reduce .kept .1 .1 .0) (b5 .reduce .ensures) (c .before .n2 .given .1) .1
 
--- src/lib.rt:194:5
 loop-again : tie.Need-loop-again Inv-loop μ-loop
-loop-again c = ?
+loop-again c =
+    let b5 = c .before .before .before .before .before in
+    let b10 = b5 .before .before .before .before .before in
+    let b15 = b10 .before .before .before .before .before in
+    let b21 = b15 .before .before .before .before .before .before in
+    let pre = b21 .before .before .before .before .before .before .pre in
+    pass-goes (pre .0) (pre .3) (b15 .loop .inv) (rw (b10 .before .before .n .given .1) at (b10 .before .before .before .before .sort .ensures)) (b10 .join .ensures) (b5 .before .before .before .before .join2 .ensures)
+    (b5 .before .before .if1 .left) (omega (arith, b5 .before .before .before .struct-known .given)) (b5 .reduce .kept .1 .1 .0) (b5 .reduce .ensures) (c .before .n2 .given .1) .0
 
 pub pass-spec : {M : Type 1} → statement M
 pass-spec =
@@ -118,25 +110,25 @@ pass-spec =
     Inv-loop
     μ-loop
     arrive-requires
-    enum-known-s
-    enum-told
-    same-length
+    (λ c. search needs)
+    (λ c. search needs)
+    (λ c. search needs)
     returns
-    enum-told-2
-    same-length-2
+    (λ c. search needs)
+    (λ c. search needs)
     returns-2
     loop-holds
     sort-requires
-    enum-known-n
-    enum-told-3
+    (λ c. search needs)
+    (λ c. search needs)
     same-length-3
     returns-3
-    join-requires
-    join-requires-2
+    (λ c κs. search needs)
+    (λ c κs. search needs)
     same-length-4
     returns-4
     reduce-requires
-    enum-known-n-2
+    (λ c. search needs)
     same-length-5
     returns-5
     loop-less
