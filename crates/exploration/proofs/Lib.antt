@@ -5,3 +5,4 @@ pub mod Moves
 pub mod Cells
 pub mod Arrives
 pub mod Passes
+pub mod Explores

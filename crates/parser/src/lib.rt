@@ -144,7 +144,14 @@ fn told(e: Expected, position: usize, counts: Counts) -> Answer
 }
 
 // The answer for a wrong terminal at a position: the terminals that can follow the input before it.
-fn explored(table: &[u16], input: &[u8], second: &mut [u16], step_limit: u64, position: usize, counts: Counts) -> Answer
+fn explored(
+    table: &[u16],
+    input: &[u8],
+    second: &mut [u16],
+    step_limit: u64,
+    position: usize,
+    counts: Counts,
+) -> Answer
     requires { ⌜ (Checked (now table)) × (inputOk (now table) (now input) ≡ true) × (0 < length (now second)) × (position ≤ length (now input)) ⌝ }
     ensures { λ r. ⌜ ((m : Machine) → At m position counts → numbers r ≡ numbersOf (wrongAt (now (table .entry)) (now (input .entry)) «step_limit» (length (now (second .entry))) m)) ⌝ }
 {

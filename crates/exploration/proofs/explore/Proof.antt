@@ -1,86 +1,80 @@
+use mathlib.Core.Path.{_≡_, refl, _∙_}
+use native.Mathlib.Omega.{arith}
+use lib.ListN.{length}
+use Rattle.sets.specs.Bit.{bit, count}
+use Rattle.machine.proofs.Checked.{cells-within}
+use Rattle.exploration.proofs.Explores.{Deciding, deciding-start, deciding-end, deciding-less, deciding-next, none-offer}
+use borrow.Author.Needs.{needs}
 use Rattle.exploration.proofs.explore.Statement.{statement}
 use Rattle.exploration.proofs.explore.Tie as tie
-use Rattle.exploration.proofs.explore.Reads as reads
-use Rattle.exploration.proofs.explore.Lts as lts
-use Rattle.exploration.proofs.all.Reads as all-reads
-use Rattle.exploration.proofs.pass.Reads as pass-reads
-use Rattle.sets.proofs.join.Reads as join-reads
-use Rattle.tables.proofs.cells_of.Reads as cells-of-reads
-use Rattle.tables.proofs.shape_of.Reads as shape-of-reads
 
 abbrev Inv-loop : tie.InvT-loop
-Inv-loop table line second₀ step-limit z cells todo₀ found₀ second todo found = ?
+Inv-loop table line second₀ step-limit z cells todo₀ found₀ second todo found =
+    Deciding table step-limit (length second₀) line todo found × (length second ≡ length second₀)
 
 abbrev μ-loop : tie.MeasureT-loop
-μ-loop table line second₀ step-limit z cells todo₀ found₀ second todo found = ?
+μ-loop table line second₀ step-limit z cells todo₀ found₀ second todo found = count (bit todo) 64
 
--- src/lib.rt:216:9
 shape-of-requires : tie.Need-shape-of-requires Inv-loop μ-loop
-shape-of-requires c κs = ?
+shape-of-requires c κs = c .before .before .before .pre .0 .long
 
--- src/lib.rt:217:9
 cells-of-requires : tie.Need-cells-of-requires Inv-loop μ-loop
-cells-of-requires c κs = ?
+cells-of-requires c κs = cells-within (c .before .before .before .before .pre .0) (c .shape-of .ensures)
 
--- src/lib.rt:218:9
 all-requires : tie.Need-all-requires Inv-loop μ-loop
-all-requires c κs = ?
+all-requires c κs =
+    let e = c .before .shape-of .ensures .terminals-are in
+    let k = c .before .before .before .before .before .pre .0 .sizes .terminals-are in
+    (omega (arith, e, k), omega (arith, e, k))
 
--- src/lib.rt:220:5
 loop-holds : tie.Need-loop-holds Inv-loop μ-loop
-loop-holds c = ?
+loop-holds c = (deciding-start (omega (arith, c .all .ok)) (λ m. rw (← c .before .before .shape-of .ensures .terminals-are) (c .all .ensures m)), refl)
 
--- src/lib.rt:221:13
 pass-requires : tie.Need-pass-requires Inv-loop μ-loop
-pass-requires c κs = ?
+pass-requires c κs =
+    let b2 = c .before .before in
+    let b9 = b2 .before .before .before .before .before .before .before in
+    (record { checked = b9 .pre .0; shaped = b2 .before .before .before .shape-of .ensures; rows = b2 .before .before .cells-of .ensures }, b9 .pre .1, omega (arith, b9 .pre .2, b2 .loop .inv .1), b2 .loop .inv .0 .small)
 
--- src/lib.rt:223:35
-enum-known-n : tie.Need-enum-known-n Inv-loop μ-loop
-enum-known-n c = ?
-
--- src/lib.rt:224:17
-join-requires : tie.Need-join-requires Inv-loop μ-loop
-join-requires c κs = ?
-
--- src/lib.rt:220:5
 loop-less : tie.Need-loop-less Inv-loop μ-loop
-loop-less c = ?
+loop-less c =
+    let b6 = c .before .before .before .before .before .before in
+    let b9 = b6 .before .before .before in
+    deciding-less (b9 .loop .inv .0) (rw (b9 .loop .inv .1) at (rw (c .before .before .n .given .1) at (b6 .pass .ensures))) (b6 .before .before .loop-test .taken)
 
--- src/lib.rt:220:5
 loop-again : tie.Need-loop-again Inv-loop μ-loop
-loop-again c = ?
+loop-again c =
+    let b6 = c .before .before .before .before .before .before in
+    let b9 = b6 .before .before .before in (
+      deciding-next (b9 .loop .inv .0) (rw (b9 .loop .inv .1) at (rw (c .before .before .n .given .1) at (b6 .pass .ensures))) (c .join .ensures) (search needs),
+      b6 .pass .kept .1 .1 .1 .0 ∙ b9 .loop .inv .1,
+    )
 
--- src/lib.rt:228:17
-enum-told : tie.Need-enum-told Inv-loop μ-loop
-enum-told c = ?
-
--- src/lib.rt:228:17
 same-length : tie.Need-same-length Inv-loop μ-loop
-same-length c = ?
+same-length c = let b4 = c .before .before .before .before in b4 .pass .kept .1 .1 .1 .0 ∙ b4 .before .before .before .loop .inv .1
 
--- src/lib.rt:228:17
 returns : tie.Need-returns Inv-loop μ-loop
-returns c = ?
+returns c =
+    let b4 = c .before .before .before .before in
+    let b7 = b4 .before .before .before in
+    let pre = b7 .before .before .before .before .before .before .before .pre in
+    none-offer (pre .0) (pre .1) (pre .2) (rw (b7 .loop .inv .1) at (rw (c .enum-told .given .1) at (b4 .pass .ensures)))
 
--- src/lib.rt:231:17
-enum-told-2 : tie.Need-enum-told-2 Inv-loop μ-loop
-enum-told-2 c = ?
-
--- src/lib.rt:231:17
 same-length-2 : tie.Need-same-length-2 Inv-loop μ-loop
-same-length-2 c = ?
+same-length-2 c = let b4 = c .before .before .before .before in b4 .pass .kept .1 .1 .1 .0 ∙ b4 .before .before .before .loop .inv .1
 
--- src/lib.rt:231:17
 returns-2 : tie.Need-returns-2 Inv-loop μ-loop
-returns-2 c = ?
+returns-2 c =
+    let b4 = c .before .before .before .before in
+    rw (b4 .before .before .before .loop .inv .1) at (rw (c .enum-told2 .given .1) at (b4 .pass .ensures))
 
--- src/lib.rt:212:1
 same-length-3 : tie.Need-same-length-3 Inv-loop μ-loop
-same-length-3 c = ?
+same-length-3 c = c .before .loop .inv .1
 
--- src/lib.rt:212:1
 returns-3 : tie.Need-returns-3 Inv-loop μ-loop
-returns-3 c = ?
+returns-3 c =
+    let pre = c .before .before .before .before .before .before .before .before .pre in
+    deciding-end (c .before .loop .inv .0) (pre .0) (pre .1) (pre .2) (c .loop-test .left)
 
 pub explore-spec : {M : Type 1} → statement M
 explore-spec =
@@ -93,14 +87,14 @@ explore-spec =
     all-requires
     loop-holds
     pass-requires
-    enum-known-n
-    join-requires
+    (λ c. search needs)
+    (λ c κs. search needs)
     loop-less
     loop-again
-    enum-told
+    (λ c. search needs)
     same-length
     returns
-    enum-told-2
+    (λ c. search needs)
     same-length-2
     returns-2
     same-length-3
