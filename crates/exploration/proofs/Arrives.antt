@@ -1,11 +1,11 @@
 -- What the loop of `arrive` keeps, and the laws of its ways out, in the values that the code has.
-use Prim.Native.Nat.{ℕ, zero, suc, _+_, _-_, _*_, _^_, _<_, _≤_}
-use mathlib.Core.Path.{_≡_, refl, sym, ap, _∙_}
+use Prim.Native.Nat.{ℕ, suc, _+_, _-_, _*_, _<_, _≤_}
+use mathlib.Core.Path.{_≡_, refl, sym, _∙_}
 use mathlib.Core.Bool.{true}
 use mathlib.Core.Logic.{_≢_}
 use mathlib.Core.List.{List, [], _∷_, _++_}
 use native.Mathlib.Omega.{arith}
-use lib.ListN.{length, getD, set, drop, take, length-set, drop-of-length-le}
+use lib.ListN.{length, getD, set, drop, drop-of-length-le}
 use lib.Seq.{drop-cons}
 use Rattle.tables.specs.Layout.{states, terminals, productions, cellOf, reduction, accept}
 use Rattle.tables.specs.declared.Shape.{Shape}
@@ -17,12 +17,13 @@ use Rattle.machine.proofs.LrMachineLaws.{conf, wrong}
 use Rattle.machine.proofs.Shifts.{Below}
 use Rattle.unlisted_steps.specs.Spot.{Readable, Stands, Standing, Shifts, Reduces}
 use Rattle.unlisted_steps.specs.declared.Spot.{Spot}
+use Rattle.unlisted_steps.proofs.Area.{below-top}
 use Rattle.unlisted_steps.specs.declared.Next.{Next}
 use Rattle.unlisted_steps.specs.declared.Next.the-variants.{Moved}
 use Rattle.exploration.specs.Phases.{Reaches, NoneFollows}
 use Rattle.exploration.proofs.Fresh.{alone, comes-start, stops-spent, explored, cut-short}
-use Rattle.exploration.proofs.Moves.{Stopped, Reduced, shifted, reduced, shift-comes, shift-stops, reduce-comes, reduce-stops}
-use Rattle.exploration.proofs.Cells.{line-terminal, top-below, accept-passed, cell-up-fits, cell-up-is}
+use Rattle.exploration.proofs.Moves.{shifted, reduced, shift-comes, shift-stops, reduce-comes, reduce-stops}
+use Rattle.exploration.proofs.Cells.{line-terminal, accept-passed, cell-up-fits, cell-up-is}
 
 -- state 0 alone, before the line
 pub reaches-start : {t : List ℕ} → Checked t → (line st : List ℕ) (limit : ℕ) → 0 < length st
@@ -103,7 +104,7 @@ module _ {t line cs st : List ℕ} {limit places i : ℕ} {z : Shape} {s : Spot}
   here = rw (drop-next line i h) at r
 
   top-in : here .state < states t
-  top-in = top-below (here .stands .below)
+  top-in = below-top (here .stands .below)
 
   pub action-fits : getD line i 0 + s .top * z .width < length cs
   action-fits = rw (here .stands .top-is) (cell-up-fits rd (here .state) (getD line i 0) top-in (next .1))

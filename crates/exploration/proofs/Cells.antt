@@ -1,19 +1,18 @@
 -- What the checks say of the cells that an exploration meets.
-use Prim.Native.Nat.{ℕ, _+_, _-_, _*_, _^_, _<_, _≤_}
-use mathlib.Core.Path.{_≡_, refl, sym, ap, _∙_}
+use Prim.Native.Nat.{ℕ, _+_, _-_, _*_, _<_}
+use mathlib.Core.Path.{_≡_}
 use mathlib.Core.Bool.{true}
-use mathlib.Core.List.{List, _∷_}
+use mathlib.Core.List.{List}
 use native.Mathlib.Omega.{arith}
-use lib.ListN.{length, getD, drop}
+use lib.ListN.{length, getD}
 use lib.Dec.{ltb}
 use borrow.Author.Tests.{lt-ltb, le-ltb, ne-eqb, eq-eqb, ltb-true, eqb-true}
 use Rattle.sets.proofs.TestLaws.{and-left, and-right, all-at}
-use Rattle.tables.specs.Layout.{states, terminals, productions, width, cellOf, accept}
+use Rattle.tables.specs.Layout.{states, terminals, width, cellOf, accept}
 use Rattle.tables.specs.declared.Shape.{Shape}
 use Rattle.tables.proofs.Places.{cell-in, cell-up}
 use Rattle.machine.specs.Checks.{terminalCellOk, cellOk, rowOk, cellsOk, terminalOk, inputOk}
-use Rattle.machine.proofs.Checked.{Checked, shift-passed, reduce-passed, cell-within}
-use Rattle.machine.proofs.Shifts.{Below}
+use Rattle.machine.proofs.Checked.{Checked, cell-within}
 use Rattle.unlisted_steps.specs.Spot.{Readable}
 
 -- the terminals of a line that was let pass
@@ -22,9 +21,6 @@ unfolding inputOk terminalOk
 line-terminal t line ok i h =
     let e = all-at (λ i. terminalOk t (getD line i 0)) (length line) ok i h in
     (ltb-true 0 (getD line i 0) (and-left (ltb 0 (getD line i 0)) _ e), ltb-true (getD line i 0) (terminals t) (and-right (ltb 0 (getD line i 0)) _ e))
-
-pub top-below : {n q : ℕ} {qs : List ℕ} → Below n (q ∷ qs) → q < n
-top-below (Below.more h b) = h
 
 in-width : (t : List ℕ) {x : ℕ} → x < terminals t → x < width t
 unfolding width

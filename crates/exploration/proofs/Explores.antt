@@ -1,11 +1,10 @@
 -- What the loop of `explore` keeps: each terminal is found, wrong, or still to be decided.
-use Prim.Native.Nat.{ℕ, _-_, _^_, _<_, _≤_}
-use mathlib.Core.Path.{_≡_, refl, sym, ap, _∙_}
+use Prim.Native.Nat.{ℕ, _-_, _^_, _<_}
+use mathlib.Core.Path.{_≡_, refl, sym, _∙_}
 use mathlib.Core.Bool.{Bool, true, false, false≢true}
 use mathlib.Core.Logic.{_↔_, ⊎-elim}
 use mathlib.Core.List.{List}
 use native.Mathlib.Omega.{arith}
-use lib.ListN.{length}
 use lib.Bits.{bitOr}
 use lib.Count.{trailingZeros}
 use Rattle.sets.specs.Bit.{bit, count, Has}
@@ -15,7 +14,7 @@ use Rattle.tables.specs.Layout.{terminals}
 use Rattle.machine.specs.Checks.{inputOk}
 use Rattle.machine.specs.Exploration.{Explored, Offer}
 use Rattle.machine.proofs.Checked.{Checked}
-use Rattle.machine.proofs.Explorations.{Decided, decided-offer}
+use Rattle.machine.proofs.Explorations.{decided-offer}
 use Rattle.exploration.specs.Phases.{NoneFollows, Decides}
 use Rattle.exploration.proofs.Words.{lowest-member, not-below, count-less}
 

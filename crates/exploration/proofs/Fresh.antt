@@ -1,15 +1,15 @@
 -- Laws of fresh readings over any table: they go on by a step, and stop.
 use Prim.Native.Nat.{ℕ, zero, suc, _+_, _<_, _≤_, max}
-use mathlib.Core.Path.{_≡_, refl, ap}
+use mathlib.Core.Path.{_≡_, refl}
 use mathlib.Core.Logic.{_≢_}
 use mathlib.Core.List.{List, [], _∷_, _++_, append-nil}
-use lib.ListN.{length, drop, length-append}
 use native.Mathlib.Omega.{arith}
-use Rattle.sets.specs.Lists.{peek, rest}
-use Rattle.tables.specs.Layout.{terminals, cellOf, leftOf, lengthOf, reduction, accept}
-use Rattle.machine.specs.Stops.{Stops, accepted-here, wrong-here, no-steps, broken-here, stack-full}
+use Rattle.sets.specs.Lists.{peek}
+use Rattle.tables.specs.Layout.{terminals, cellOf, reduction, accept}
+use Rattle.machine.specs.Stops.{Stops, no-steps, broken-here, stack-full}
 use Rattle.machine.specs.Exploration.{Comes, unlisted, Explored, shifts, stops, reads, Cut, CutShort}
-use Rattle.machine.proofs.LrMachineLaws.{Config, conf, depth, listed, Step, Path, Broken, Ends, accepts, wrong, broken}
+use Rattle.machine.proofs.Explorations.{path-listed, comes-listed}
+use Rattle.machine.proofs.LrMachineLaws.{Config, conf, depth, Step, Path, Broken, Ends, wrong, broken}
 
 module _ {t : List ℕ} where
   -- a step behind a path
@@ -18,15 +18,6 @@ module _ {t : List ℕ} where
   path-step {c″ = c″} (Path.more {n = n} {m = m} {c = c} s p) s′ =
       let e : max (depth c) (max m (depth c″)) ≡ max (max (depth c) m) (depth c″) = omega arith in
       rw e at (Path.more s (path-step p s′))
-
-  -- a step lists at most one production
-  lists-one : {c c′ : Config} → Step t c c′ → listed c′ ≤ suc (listed c)
-  lists-one (Step.shift s e h k) = omega arith
-  lists-one (Step.reduce {out = out} r p ps s e n d f h) = let z = length-append out (r ∷ []) in omega (arith, z)
-
-  path-lists-most : {n m : ℕ} {c c′ : Config} → Path t n m c c′ → listed c′ ≤ n + listed c
-  path-lists-most Path.none = omega arith
-  path-lists-most (Path.more s p) = let a = lists-one s in let b = path-lists-most p in omega arith
 
 -- the next terminal of a line with nothing but m on it is m
 abbrev pub alone : ℕ → List ℕ
@@ -51,10 +42,6 @@ module _ {t : List ℕ} {limit second : ℕ} where
       budget = omega (arith, f .budget);
     }
 
-    -- "no rule list": each production listed is a step made
-    pub comes-lists : listed c + left ≤ limit
-    comes-lists = let a = path-lists-most (f .path) in omega (arith, f .budget)
-
   module _ {input : List ℕ} {q : ℕ} {qs x out : List ℕ} {left : ℕ} (f : Comes t limit second input (conf (q ∷ qs) x out) left) where
     pub stops-spent : cellOf t q (peek x) ≢ 0 → left ≡ 0 → Stops t (unlisted limit second left) (conf (q ∷ qs) x out) 32
     stops-spent n e = no-steps not-wrong e
@@ -63,10 +50,10 @@ module _ {t : List ℕ} {limit second : ℕ} where
         not-wrong (wrong z) = n z
 
     pub stops-full : {c : Config} → Step t (conf (q ∷ qs) x out) c → 0 < left → depth c ≡ suc second → Stops t (unlisted limit second left) (conf (q ∷ qs) x out) 33
-    stops-full s h e = let a = lists-one s in let b = comes-lists f in stack-full s h (omega arith) e
+    stops-full s h e = let a = path-listed t (Path.more s Path.none) in let b = comes-listed t f in stack-full s h (omega arith) e
 
     pub stops-broken : (r : ℕ) → cellOf t q (peek x) ≡ reduction r → reduction r ≢ accept → Broken t r (q ∷ qs) → 0 < left → Stops t (unlisted limit second left) (conf (q ∷ qs) x out) 35
-    stops-broken r e n b h = let l = comes-lists f in broken-here (broken r e n b) h (omega arith)
+    stops-broken r e n b h = let l = comes-listed t f in broken-here (broken r e n b) h (omega arith)
 
   module _ {line : List ℕ} where
     -- the fresh reading for m stops before it shifts m

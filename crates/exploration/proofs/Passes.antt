@@ -10,7 +10,7 @@ use lib.Bits.{bitOr}
 use Rattle.sets.specs.Bit.{bit, Has}
 use Rattle.sets.specs.Lists.{peek}
 use Rattle.sets.proofs.HasLaws.{has-none, has-or, or-has-l, or-has-r}
-use Rattle.tables.specs.Layout.{states, terminals, productions, cellOf, leftOf, reduction, accept}
+use Rattle.tables.specs.Layout.{states, terminals, productions, cellOf, reduction, accept}
 use Rattle.tables.specs.declared.Shape.{Shape}
 use Rattle.machine.specs.Stops.{Stops, accepted-here, wrong-here}
 use Rattle.machine.specs.Exploration.{Comes, unlisted, Explored, shifts, Cut, no-steps-left, no-place-left, CutShort}
@@ -18,6 +18,7 @@ use Rattle.machine.proofs.Checked.{shift-passed, reduce-passed}
 use Rattle.machine.proofs.LrMachineLaws.{conf, Step, accepts, wrong}
 use Rattle.unlisted_steps.specs.Spot.{Readable, Stands, Standing, Reduces}
 use Rattle.unlisted_steps.specs.declared.Spot.{Spot}
+use Rattle.unlisted_steps.proofs.Area.{below-top}
 use Rattle.unlisted_steps.specs.declared.Next.{Next}
 use Rattle.unlisted_steps.specs.declared.Next.the-variants.{Moved}
 use Rattle.exploration.specs.Phases.{Reaches, Short, no-steps, no-place, Found, Apart, Stuck, Decides}
@@ -25,7 +26,7 @@ use Rattle.exploration.specs.declared.Sorted.{Sorted}
 use Rattle.exploration.proofs.Fresh.{alone, peek-alone, comes-step, stops-spent, stops-full, explored, cut-short}
 use Rattle.exploration.proofs.Moves.{reduced, reduce-comes, reduce-stops}
 use Rattle.exploration.proofs.Words.{lowest-member}
-use Rattle.exploration.proofs.Cells.{top-below, accept-passed, cell-fits, cell-is}
+use Rattle.exploration.proofs.Cells.{accept-passed, cell-fits, cell-is}
 
 -- the fresh readings of the group stand at the spot s, each with its terminal next; the other terminals of todo are found, left for later, or wrong
 pub record Passing (t : List ℕ) (limit places : ℕ) (line : List ℕ) (todo : ℕ) (st : List ℕ) (s : Spot) (group found later : ℕ) : Type 0 where
@@ -68,7 +69,7 @@ module _ {t line cs st : List ℕ} {limit places todo : ℕ} {z : Shape} {s : Sp
   over e = record { offered = p .offered; behind = p .behind; left-out = λ m h nf nl. p .left-out m h nf (λ g. has-none m (rw e at g)) nl }
 
   top-in : p .state < states t
-  top-in = top-below (p .stands .below)
+  top-in = below-top (p .stands .below)
 
   -- what `sort` asks for
   pub sort-asks : (s .top * z .width + z .terminals ≤ length cs) × ((m : ℕ) → Has group m → m < z .terminals)
