@@ -1,4 +1,4 @@
--- What the loop of `explore` keeps: each terminal is found, wrong, or still to be decided.
+-- What the passes keep: each terminal is found, wrong, or still to be decided.
 use Prim.Native.Nat.{ℕ, _-_, _^_, _<_}
 use mathlib.Core.Path.{_≡_, refl, sym, _∙_}
 use mathlib.Core.Bool.{Bool, true, false, false≢true}
@@ -15,21 +15,17 @@ use Rattle.machine.specs.Checks.{inputOk}
 use Rattle.machine.specs.Exploration.{Explored, Offer}
 use Rattle.machine.proofs.Checked.{Checked}
 use Rattle.machine.proofs.Explorations.{decided-offer}
-use Rattle.exploration.specs.Phases.{NoneFollows, Decides}
+use Rattle.exploration.specs.Phases.{NoneFollows, Decides, Deciding}
 use Rattle.exploration.proofs.Words.{lowest-member, not-below, count-less}
 
-pub record Deciding (t : List ℕ) (limit places : ℕ) (line : List ℕ) (todo found : ℕ) : Type 0 where
-  pub fits : todo < 2 ^ 64
-  pub small : (m : ℕ) → Has todo m → m < terminals t
-  pub offered : (m : ℕ) → Has found m → (m < terminals t) × Explored t limit places line m 0
-  pub left-out : (m : ℕ) → m < terminals t → (Has found m → ⊥) → (Has todo m → ⊥) → Explored t limit places line m 31
-
-pub deciding-start : {t line : List ℕ} {limit places todo : ℕ} → todo < 2 ^ 64 → ((m : ℕ) → Has todo m ↔ (m < terminals t)) → Deciding t limit places line todo 0
-deciding-start f a = record {
+-- the first pass is over all terminals
+pub deciding-first : {t line : List ℕ} {limit places todo found later : ℕ} → ((m : ℕ) → Has todo m ↔ (m < terminals t)) → Decides t limit places line todo found later → later < 2 ^ 64
+    → Deciding t limit places line later found
+deciding-first a p f = record {
   fits = f;
-  small = λ m h. a m .0 h;
-  offered = λ m h. absurd (has-none m h);
-  left-out = λ m h _ n. absurd (n (a m .1 h));
+  small = λ m h. a m .0 (p .behind m h .0);
+  offered = λ m h. let o = p .offered m h in (a m .0 (o .0), o .1);
+  left-out = λ m h n l. p .left-out m (a m .1 h) n l;
 }
 
 module _ {t line : List ℕ} {limit places todo found : ℕ} (d : Deciding t limit places line todo found) where

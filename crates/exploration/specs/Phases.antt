@@ -86,3 +86,10 @@ abbrev pub Passes : List ℕ → ℕ → ℕ → List ℕ → ℕ → Passed →
 Passes t limit places line todo (passed.Over found later) = Decides t limit places line todo found later
 Passes t limit places line todo passed.Wrong = NoneFollows t limit places line
 Passes t limit places line todo passed.Cut = CutShort t limit places line
+
+-- between passes: each terminal is found, wrong, or still to be decided
+pub record Deciding (t : List ℕ) (limit places : ℕ) (line : List ℕ) (todo found : ℕ) : Type 0 where
+  pub fits : todo < 2 ^ 64
+  pub small : (m : ℕ) → Has todo m → m < terminals t
+  pub offered : (m : ℕ) → Has found m → (m < terminals t) × Explored t limit places line m 0
+  pub left-out : (m : ℕ) → m < terminals t → (Has found m → ⊥) → (Has todo m → ⊥) → Explored t limit places line m 31

@@ -13,7 +13,7 @@ ghost use Rattle.machine.specs.Checks.{inputOk};
 ghost use Rattle.machine.proofs.Checked.{Checked};
 ghost use Rattle.unlisted_steps.specs.Spot.{Readable};
 ghost use Rattle.exploration.specs.Expected.{Explores};
-ghost use Rattle.exploration.specs.Phases.{Arrives, Short, Puts, Sorts, Passes};
+ghost use Rattle.exploration.specs.Phases.{Arrives, Short, Puts, Sorts, Passes, Deciding};
 
 // The terminals that can follow, or that a fresh reading ran out of steps or places, or broke off.
 pub enum Expected {
@@ -199,7 +199,7 @@ fn pass(
         if x.same == 0 {
             return Passed::Over { found, later };
         }
-        let n = unlisted_steps::reduce(table, cells, second, z, s, x.production);
+        let n = unlisted_steps::reduce_any(table, cells, second, z, s, x.production);
         let Next::Moved(t) = n else {
             return Passed::Cut;
         };
@@ -208,15 +208,22 @@ fn pass(
     }
 }
 
-// Which terminals can follow the line, by fresh readings in the second area.
-pub fn explore(table: &[u16], line: &[u8], second: &mut [u16], step_limit: u64) -> Expected
-    requires { ⌜ (Checked (now table)) × (inputOk (now table) (now line) ≡ true) × (0 < length (now second)) ⌝ }
+// The passes after the first, by which some terminals were found and some were left.
+fn others(
+    table: &[u16],
+    cells: &[u16],
+    line: &[u8],
+    second: &mut [u16],
+    z: Shape,
+    step_limit: u64,
+    first: u64,
+    left: u64,
+) -> Expected
+    requires { ⌜ (Readable (now table) (now cells) z) × (inputOk (now table) (now line) ≡ true) × (0 < length (now second)) × (Deciding (now table) «step_limit» (length (now second)) (now line) left first) ⌝ }
     ensures { λ r. ⌜ Explores (now (table .entry)) «step_limit» (length (now (second .entry))) (now (line .entry)) r ⌝ }
 {
-    let z = tables::shape_of(table);
-    let cells = tables::cells_of(table, z);
-    let mut todo = all(z.terminals);
-    let mut found: u64 = 0;
+    let mut todo = left;
+    let mut found = first;
     while todo != 0 {
         let n = pass(table, cells, line, second, z, step_limit, todo);
         match n {
@@ -233,4 +240,23 @@ pub fn explore(table: &[u16], line: &[u8], second: &mut [u16], step_limit: u64) 
         }
     }
     Expected::Known(found)
+}
+
+// Which terminals can follow the line, by fresh readings in the second area. The first pass, which is mostly the only
+// one, stands apart: with two callers it is compiled by itself, and not into the loop of the parser, which would slow it.
+pub fn explore(table: &[u16], line: &[u8], second: &mut [u16], step_limit: u64) -> Expected
+    requires { ⌜ (Checked (now table)) × (inputOk (now table) (now line) ≡ true) × (0 < length (now second)) ⌝ }
+    ensures { λ r. ⌜ Explores (now (table .entry)) «step_limit» (length (now (second .entry))) (now (line .entry)) r ⌝ }
+{
+    let z = tables::shape_of(table);
+    let cells = tables::cells_of(table, z);
+    let todo = all(z.terminals);
+    let n = pass(table, cells, line, second, z, step_limit, todo);
+    match n {
+        Passed::Over { found, later } => {
+            others(table, cells, line, second, z, step_limit, found, later)
+        }
+        Passed::Wrong => Expected::Known(0),
+        Passed::Cut => Expected::Cut,
+    }
 }

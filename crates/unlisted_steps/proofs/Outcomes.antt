@@ -1,6 +1,6 @@
 -- What comes of a shift, and of a reduction: its goto, and the shift to it.
 use Prim.Native.Nat.{ℕ, suc, _+_, _-_, _*_, _<_, _≤_}
-use mathlib.Core.Path.{_≡_, sym, _∙_}
+use mathlib.Core.Path.{_≡_, refl, sym, _∙_}
 use mathlib.Core.List.{List, _∷_}
 use lib.ListN.{length, drop, getD, set, drop-of-length-le}
 use native.Mathlib.Omega.{arith}
@@ -59,3 +59,22 @@ module _ {t st : List ℕ} {s : Spot} {q : ℕ} {qs : List ℕ} (h : Stands t st
         → Reduces t st′ s q qs r x
     goto-shifts nz (Shifts.moved {n = w} m e) = Reduces.moved {n = w} _ _ drops-by (rw (← ev) (omega arith)) (rw (← ev) m) e
     goto-shifts nz (Shifts.full e) = Reduces.full _ _ drops-by (rw (← ev) (omega arith)) e
+
+-- ---- a reduction by production r, whose length is 0: from the top
+
+pub top-in : {t st : List ℕ} {s : Spot} → Standing t st s → s .top < states t
+top-in h = rw (h .stands .top-is) (below-top (h .stands .below))
+
+module _ {t st : List ℕ} {s : Spot} {q : ℕ} {qs : List ℕ} (h : Stands t st s q qs) (r : ℕ) (en : lengthOf t r ≡ 0) {v : ℕ} (ev : v ≡ cellOf t (s .top) (leftOf t r)) where
+  drops-none : drop (lengthOf t r) (q ∷ qs) ≡ q ∷ qs
+  drops-none = rw en refl
+
+  goes-to : v ≡ cellOf t q (leftOf t r)
+  goes-to = rw (h .top-is) at ev
+
+  pub empty-none : v ≡ 0 → Reduces t st s q qs r Broken
+  empty-none e = Reduces.broken (no-next q qs drops-none (sym goes-to ∙ e))
+
+  pub empty-shifts : (v ≡ 0 → ⊥) → {st′ : List ℕ} {x : Next} → Shifts t st′ s q qs v x → Reduces t st′ s q qs r x
+  empty-shifts nz (Shifts.moved {n = w} m e) = Reduces.moved {n = w} q qs drops-none (rw (← goes-to) (omega arith)) (rw (← goes-to) m) e
+  empty-shifts nz (Shifts.full e) = Reduces.full q qs drops-none (rw (← goes-to) (omega arith)) e

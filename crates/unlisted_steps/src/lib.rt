@@ -3,7 +3,7 @@ use tables::Shape;
 ghost use mathlib.Core.Path.{_≡_};
 ghost use mathlib.Core.List.{List};
 ghost use Prim.Native.Nat.{ℕ, _<_, _^_};
-ghost use Rattle.tables.specs.Layout.{states, productions, leftOf, cellOf};
+ghost use Rattle.tables.specs.Layout.{states, productions, leftOf, lengthOf, cellOf};
 ghost use Rattle.unlisted_steps.specs.Spot.{Readable, Stands, Standing, Shifts, Reduces};
 
 // The stack places in use, how many steps may still be made, and the state on top.
@@ -47,12 +47,31 @@ fn goto(table: &[u16], cells: &[u16], z: Shape, under: usize, r: usize) -> usize
     tables::cell_at(cells, under * z.width, left) as usize
 }
 
-// The reduction by production r.
-pub fn reduce(table: &[u16], cells: &[u16], second: &mut [u16], z: Shape, s: Spot, r: usize) -> Next
-    requires { ⌜ (Readable (now table) (now cells) z) × (Standing (now table) (now second) s) × (r < productions (now table)) × (0 < s .left) ⌝ }
+// The reduction by production r, whose length is 0.
+fn reduce_empty(table: &[u16], cells: &[u16], second: &mut [u16], z: Shape, s: Spot, r: usize) -> Next
+    requires { ⌜ (Readable (now table) (now cells) z) × (Standing (now table) (now second) s) × (r < productions (now table)) × (lengthOf (now table) r ≡ 0) × (0 < s .left) ⌝ }
     ensures { λ x. ⌜ ((q : ℕ) (qs : List ℕ) → Stands (now (table .entry)) (now (second .entry)) s q qs → Reduces (now (table .entry)) (now (second .exit)) s q qs r x) ⌝ }
 {
-    let n = tables::length_of(table, z, r) as usize;
+    let q = goto(table, cells, z, s.top, r);
+    if q == 0 {
+        return Next::Broken;
+    }
+    shift(second, s, q)
+}
+
+// The reduction by production r, whose length is n.
+fn reduce_of(
+    table: &[u16],
+    cells: &[u16],
+    second: &mut [u16],
+    z: Shape,
+    s: Spot,
+    r: usize,
+    n: usize,
+) -> Next
+    requires { ⌜ (Readable (now table) (now cells) z) × (Standing (now table) (now second) s) × (r < productions (now table)) × (lengthOf (now table) r ≡ n) × (0 < s .left) ⌝ }
+    ensures { λ x. ⌜ ((q : ℕ) (qs : List ℕ) → Stands (now (table .entry)) (now (second .entry)) s q qs → Reduces (now (table .entry)) (now (second .exit)) s q qs r x) ⌝ }
+{
     if s.depth <= n {
         return Next::Broken;
     }
@@ -68,4 +87,37 @@ pub fn reduce(table: &[u16], cells: &[u16], second: &mut [u16], z: Shape, s: Spo
         top: under,
     };
     shift(second, popped, q)
+}
+
+// The reduction by production r, of any length.
+pub fn reduce_any(table: &[u16], cells: &[u16], second: &mut [u16], z: Shape, s: Spot, r: usize) -> Next
+    requires { ⌜ (Readable (now table) (now cells) z) × (Standing (now table) (now second) s) × (r < productions (now table)) × (0 < s .left) ⌝ }
+    ensures { λ x. ⌜ ((q : ℕ) (qs : List ℕ) → Stands (now (table .entry)) (now (second .entry)) s q qs → Reduces (now (table .entry)) (now (second .exit)) s q qs r x) ⌝ }
+{
+    let n = tables::length_of(table, z, r) as usize;
+    reduce_of(table, cells, second, z, s, r, n)
+}
+
+// The same, for a loop that reduces often. The usual lengths stand apart: where the length is guessed right, the state
+// under the popped ones is read without waiting for it.
+pub fn reduce(table: &[u16], cells: &[u16], second: &mut [u16], z: Shape, s: Spot, r: usize) -> Next
+    requires { ⌜ (Readable (now table) (now cells) z) × (Standing (now table) (now second) s) × (r < productions (now table)) × (0 < s .left) ⌝ }
+    ensures { λ x. ⌜ ((q : ℕ) (qs : List ℕ) → Stands (now (table .entry)) (now (second .entry)) s q qs → Reduces (now (table .entry)) (now (second .exit)) s q qs r x) ⌝ }
+{
+    let n = tables::length_of(table, z, r) as usize;
+    if n < 2 {
+        if n == 0 {
+            reduce_empty(table, cells, second, z, s, r)
+        } else {
+            reduce_of(table, cells, second, z, s, r, 1)
+        }
+    } else if n < 4 {
+        if n == 2 {
+            reduce_of(table, cells, second, z, s, r, 2)
+        } else {
+            reduce_of(table, cells, second, z, s, r, 3)
+        }
+    } else {
+        reduce_of(table, cells, second, z, s, r, n)
+    }
 }

@@ -1,101 +1,67 @@
-use mathlib.Core.Path.{_≡_, refl, _∙_}
 use native.Mathlib.Omega.{arith}
-use lib.ListN.{length}
-use Rattle.sets.specs.Bit.{bit, count}
 use Rattle.machine.proofs.Checked.{cells-within}
-use Rattle.exploration.proofs.Explores.{Deciding, deciding-start, deciding-end, deciding-less, deciding-next, none-offer}
+use Rattle.exploration.proofs.Explores.{deciding-first, none-offer}
 use borrow.Author.Needs.{needs}
 use Rattle.exploration.proofs.explore.Statement.{statement}
 use Rattle.exploration.proofs.explore.Tie as tie
 
-abbrev Inv-loop : tie.InvT-loop
-Inv-loop table line second₀ step-limit z cells todo₀ found₀ second todo found =
-    Deciding table step-limit (length second₀) line todo found × (length second ≡ length second₀)
-
-abbrev μ-loop : tie.MeasureT-loop
-μ-loop table line second₀ step-limit z cells todo₀ found₀ second todo found = count (bit todo) 64
-
-shape-of-requires : tie.Need-shape-of-requires Inv-loop μ-loop
-shape-of-requires c κs = c .before .before .before .pre .0 .long
-
-cells-of-requires : tie.Need-cells-of-requires Inv-loop μ-loop
+cells-of-requires : tie.Need-cells-of-requires
 cells-of-requires c κs = cells-within (c .before .before .before .before .pre .0) (c .shape-of .ensures)
 
-all-requires : tie.Need-all-requires Inv-loop μ-loop
-all-requires c κs =
-    let e = c .before .shape-of .ensures .terminals-are in
-    let k = c .before .before .before .before .before .pre .0 .sizes .terminals-are in
-    (omega (arith, e, k), omega (arith, e, k))
-
-loop-holds : tie.Need-loop-holds Inv-loop μ-loop
-loop-holds c = (deciding-start (omega (arith, c .all .ok)) (λ m. rw (← c .before .before .shape-of .ensures .terminals-are) (c .all .ensures m)), refl)
-
-pass-requires : tie.Need-pass-requires Inv-loop μ-loop
+pass-requires : tie.Need-pass-requires
 pass-requires c κs =
-    let b2 = c .before .before in
-    let b9 = b2 .before .before .before .before .before .before .before in
-    (record { checked = b9 .pre .0; shaped = b2 .before .before .before .shape-of .ensures; rows = b2 .before .before .cells-of .ensures }, b9 .pre .1, omega (arith, b9 .pre .2, b2 .loop .inv .1), b2 .loop .inv .0 .small)
-
-loop-less : tie.Need-loop-less Inv-loop μ-loop
-loop-less c =
-    let b6 = c .before .before .before .before .before .before in
-    let b9 = b6 .before .before .before in
-    deciding-less (b9 .loop .inv .0) (rw (b9 .loop .inv .1) at (rw (c .before .before .n .given .1) at (b6 .pass .ensures))) (b6 .before .before .loop-test .taken)
-
-loop-again : tie.Need-loop-again Inv-loop μ-loop
-loop-again c =
-    let b6 = c .before .before .before .before .before .before in
-    let b9 = b6 .before .before .before in (
-      deciding-next (b9 .loop .inv .0) (rw (b9 .loop .inv .1) at (rw (c .before .before .n .given .1) at (b6 .pass .ensures))) (c .join .ensures) (search needs),
-      b6 .pass .kept .1 .1 .1 .0 ∙ b9 .loop .inv .1,
+    let b3 = c .before .before .before in
+    let p = b3 .before .before .before .before .pre in
+    let e = b3 .shape-of .ensures .terminals-are in (
+      record { checked = p .0; shaped = b3 .shape-of .ensures; rows = c .before .before .cells-of .ensures },
+      p .1,
+      p .2,
+      λ m h. rw e at (c .before .all .ensures m .0 h),
     )
 
-same-length : tie.Need-same-length Inv-loop μ-loop
-same-length c = let b4 = c .before .before .before .before in b4 .pass .kept .1 .1 .1 .0 ∙ b4 .before .before .before .loop .inv .1
+others-requires : tie.Need-others-requires
+others-requires c κs =
+    let b6 = c .before .before .before .before .before .before in
+    let b10 = b6 .before .before .before .before in
+    let p = b10 .before .before .before .before .pre in
+    let e = b10 .shape-of .ensures .terminals-are in
+    let l = b6 .pass .kept .1 .1 .1 .0 in (
+      record { checked = p .0; shaped = b10 .shape-of .ensures; rows = b6 .before .before .before .cells-of .ensures },
+      p .1,
+      omega (arith, p .2, l),
+      rw l (deciding-first (λ m. rw e at (b6 .before .before .all .ensures m)) (rw (c .before .before .n .given .1) at (b6 .pass .ensures)) (search needs)),
+    )
 
-returns : tie.Need-returns Inv-loop μ-loop
+returns : tie.Need-returns
 returns c =
-    let b4 = c .before .before .before .before in
-    let b7 = b4 .before .before .before in
-    let pre = b7 .before .before .before .before .before .before .before .pre in
-    none-offer (pre .0) (pre .1) (pre .2) (rw (b7 .loop .inv .1) at (rw (c .enum-told .given .1) at (b4 .pass .ensures)))
+    let b2 = c .before .before in
+    let b9 = b2 .before .before .before .before .before .before .before in
+    rw (b9 .pass .kept .1 .1 .1 .0) at (b2 .others .ensures)
 
-same-length-2 : tie.Need-same-length-2 Inv-loop μ-loop
-same-length-2 c = let b4 = c .before .before .before .before in b4 .pass .kept .1 .1 .1 .0 ∙ b4 .before .before .before .loop .inv .1
-
-returns-2 : tie.Need-returns-2 Inv-loop μ-loop
+returns-2 : tie.Need-returns-2
 returns-2 c =
     let b4 = c .before .before .before .before in
-    rw (b4 .before .before .before .loop .inv .1) at (rw (c .enum-told2 .given .1) at (b4 .pass .ensures))
+    let p = b4 .before .before .before .before .before .before .before .before .pre in
+    none-offer (p .0) (p .1) (p .2) (rw (c .enum-told .given .1) at (b4 .pass .ensures))
 
-same-length-3 : tie.Need-same-length-3 Inv-loop μ-loop
-same-length-3 c = c .before .loop .inv .1
-
-returns-3 : tie.Need-returns-3 Inv-loop μ-loop
-returns-3 c =
-    let pre = c .before .before .before .before .before .before .before .before .pre in
-    deciding-end (c .before .loop .inv .0) (pre .0) (pre .1) (pre .2) (c .loop-test .left)
+returns-3 : tie.Need-returns-3
+returns-3 c = rw (c .enum-told2 .given .1) at (c .before .before .before .before .pass .ensures)
 
 pub explore-spec : {M : Type 1} → statement M
 explore-spec =
     tie.close
     (tie.spec
-    Inv-loop
-    μ-loop
-    shape-of-requires
+    (λ c κs. search needs)
     cells-of-requires
-    all-requires
-    loop-holds
+    (λ c κs. search needs)
     pass-requires
     (λ c. search needs)
-    (λ c κs. search needs)
-    loop-less
-    loop-again
+    others-requires
     (λ c. search needs)
-    same-length
+    (λ c. search needs)
+    (λ c. search needs)
     returns
     (λ c. search needs)
-    same-length-2
     returns-2
-    same-length-3
+    (λ c. search needs)
     returns-3)

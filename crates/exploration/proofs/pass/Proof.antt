@@ -57,8 +57,8 @@ returns-4 c =
     (pass-over (pre .0) (pre .3) (b8 .loop .inv) (rw (b3 .before .before .n .given .1) at (b3 .before .before .before .before .sort .ensures)) (b3 .join .ensures) (c .before .before .join2 .ensures)
     (c .if1 .taken))
 
-reduce-requires : tie.Need-reduce-requires Inv-loop μ-loop
-reduce-requires c κs =
+reduce-any-requires : tie.Need-reduce-any-requires Inv-loop μ-loop
+reduce-any-requires c κs =
     let b4 = c .before .before .before .before in
     let b9 = b4 .before .before .before .before .before in
     let b15 = b9 .before .before .before .before .before .before in
@@ -70,7 +70,7 @@ same-length-5 : tie.Need-same-length-5 Inv-loop μ-loop
 same-length-5 c =
     let b6 = c .before .before .before .before .before .before in
     let b13 = b6 .before .before .before .before .before .before .before in
-    c .before .before .before .reduce .kept .1 .1 .0 ∙ b13 .loop .inv .long ∙ b13 .before .before .before .before .before .before .arrive .kept .1 .1 .1 .0
+    c .before .before .before .reduce-any .kept .1 .1 .0 ∙ b13 .loop .inv .long ∙ b13 .before .before .before .before .before .before .arrive .kept .1 .1 .1 .0
 
 returns-5 : tie.Need-returns-5 Inv-loop μ-loop
 returns-5 c =
@@ -81,7 +81,7 @@ returns-5 c =
     let pre = b19 .before .before .before .before .before .before .pre in
     rw (b19 .arrive .kept .1 .1 .1 .0) at
     (pass-cut (pre .0) (pre .3) (b13 .loop .inv) (rw (b8 .before .before .n .given .1) at (b8 .before .before .before .before .sort .ensures)) (b8 .join .ensures) (b3 .before .before .before .before .join2 .ensures)
-    (b3 .before .before .if1 .left) (omega (arith, b3 .before .before .before .struct-known .given)) (b3 .reduce .kept .1 .1 .0) (b3 .reduce .ensures) (not-moved _ (c .match3 .keys2)))
+    (b3 .before .before .if1 .left) (omega (arith, b3 .before .before .before .struct-known .given)) (b3 .reduce-any .kept .1 .1 .0) (b3 .reduce-any .ensures) (not-moved _ (c .match3 .keys2)))
 
 loop-less : tie.Need-loop-less Inv-loop μ-loop
 loop-less c =
@@ -91,7 +91,7 @@ loop-less c =
     let b21 = b15 .before .before .before .before .before .before in
     let pre = b21 .before .before .before .before .before .before .pre in
     pass-goes (pre .0) (pre .3) (b15 .loop .inv) (rw (b10 .before .before .n .given .1) at (b10 .before .before .before .before .sort .ensures)) (b10 .join .ensures) (b5 .before .before .before .before .join2 .ensures)
-    (b5 .before .before .if1 .left) (omega (arith, b5 .before .before .before .struct-known .given)) (b5 .reduce .kept .1 .1 .0) (b5 .reduce .ensures) (c .before .n2 .given .1) .1
+    (b5 .before .before .if1 .left) (omega (arith, b5 .before .before .before .struct-known .given)) (b5 .reduce-any .kept .1 .1 .0) (b5 .reduce-any .ensures) (c .before .n2 .given .1) .1
 
 loop-again : tie.Need-loop-again Inv-loop μ-loop
 loop-again c =
@@ -101,7 +101,7 @@ loop-again c =
     let b21 = b15 .before .before .before .before .before .before in
     let pre = b21 .before .before .before .before .before .before .pre in
     pass-goes (pre .0) (pre .3) (b15 .loop .inv) (rw (b10 .before .before .n .given .1) at (b10 .before .before .before .before .sort .ensures)) (b10 .join .ensures) (b5 .before .before .before .before .join2 .ensures)
-    (b5 .before .before .if1 .left) (omega (arith, b5 .before .before .before .struct-known .given)) (b5 .reduce .kept .1 .1 .0) (b5 .reduce .ensures) (c .before .n2 .given .1) .0
+    (b5 .before .before .if1 .left) (omega (arith, b5 .before .before .before .struct-known .given)) (b5 .reduce-any .kept .1 .1 .0) (b5 .reduce-any .ensures) (c .before .n2 .given .1) .0
 
 pub pass-spec : {M : Type 1} → statement M
 pass-spec =
@@ -127,7 +127,7 @@ pass-spec =
     (λ c κs. search needs)
     same-length-4
     returns-4
-    reduce-requires
+    reduce-any-requires
     (λ c. search needs)
     same-length-5
     returns-5
