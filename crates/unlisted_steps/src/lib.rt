@@ -48,7 +48,14 @@ fn goto(table: &[u16], cells: &[u16], z: Shape, under: usize, r: usize) -> usize
 }
 
 // The reduction by production r, whose length is 0.
-fn reduce_empty(table: &[u16], cells: &[u16], second: &mut [u16], z: Shape, s: Spot, r: usize) -> Next
+fn reduce_empty(
+    table: &[u16],
+    cells: &[u16],
+    second: &mut [u16],
+    z: Shape,
+    s: Spot,
+    r: usize,
+) -> Next
     requires { ⌜ (Readable (now table) (now cells) z) × (Standing (now table) (now second) s) × (r < productions (now table)) × (lengthOf (now table) r ≡ 0) × (0 < s .left) ⌝ }
     ensures { λ x. ⌜ ((q : ℕ) (qs : List ℕ) → Stands (now (table .entry)) (now (second .entry)) s q qs → Reduces (now (table .entry)) (now (second .exit)) s q qs r x) ⌝ }
 {
@@ -90,7 +97,14 @@ fn reduce_of(
 }
 
 // The reduction by production r, of any length.
-pub fn reduce_any(table: &[u16], cells: &[u16], second: &mut [u16], z: Shape, s: Spot, r: usize) -> Next
+pub fn reduce_any(
+    table: &[u16],
+    cells: &[u16],
+    second: &mut [u16],
+    z: Shape,
+    s: Spot,
+    r: usize,
+) -> Next
     requires { ⌜ (Readable (now table) (now cells) z) × (Standing (now table) (now second) s) × (r < productions (now table)) × (0 < s .left) ⌝ }
     ensures { λ x. ⌜ ((q : ℕ) (qs : List ℕ) → Stands (now (table .entry)) (now (second .entry)) s q qs → Reduces (now (table .entry)) (now (second .exit)) s q qs r x) ⌝ }
 {
