@@ -38,7 +38,7 @@ bad() {
     fi
 }
 
-for example in a json; do
+for example in a json nested pair; do
     "$page" "$here/$example.table" <"$here/$example.lines" >"$tmp/out" || failed=1
     same $example.lines "$here/$example.expected"
 done
@@ -54,11 +54,29 @@ for limit in 4294967295 4294967296 4294967297 4294967300 9223372036854775808 184
     says "2 2" "wrong at 1: steps 1, after 2, expected 0 1" "$here/a.table" $limit
     says "2 1" "stopped 33: steps 2, stack 2, listed 1" "$here/a.table" $limit 2
     says "2 1" "stopped 34: steps 3, stack 3, listed 1" "$here/a.table" $limit 10 1
+    says "2 2" "wrong at 1: steps 1, after 2, expected unknown (46)" "$here/a.table" $limit 2
+    says "2 2" "wrong at 1: steps 1, after 2, expected 0 1" "$here/a.table" $limit 2 0 3
 done
 says "" "accepted: steps 2, productions 0" "$here/empty.table"
-says "" "wrong at 0: steps 0, expected 2" "$here/a.table" 0 1 0
+# what can follow takes steps and places: of the limit, of the second area and of nothing else
+says "" "wrong at 0: steps 0, expected unknown (46)" "$here/a.table" 0
+says "" "wrong at 0: steps 0, expected unknown (46)" "$here/a.table" 1 1
+says "" "wrong at 0: steps 0, expected 2" "$here/a.table" 1 2 0
+says "" "wrong at 0: steps 0, expected 2" "$here/a.table" 1 1 0 2
+for limit in 1 2; do
+    says "2 2" "wrong at 1: steps 1, after 2, expected unknown (46)" "$here/a.table" $limit
+done
+says "2 2" "wrong at 1: steps 1, after 2, expected 0 1" "$here/a.table" 3 3 0
+says "2 2" "wrong at 1: steps 1, after 2, expected unknown (46)" "$here/a.table" 3 2 0
+says "2 2" "refused 45: second stack area too short" "$here/a.table" 3 2 0 1
+says "2 2" "refused 45: second stack area too short" "$here/a.table" 3 2 0 0
+says "2 3" "refused 26: no such terminal" "$here/a.table" 3 2 0 1
+says "2 2" "refused 27: no stack area" "$here/a.table" 3 0 0 0
 printf 'table 1 1 1 1\nleft 1\nlength 1\nentered 0\nrow 0 : 1024 0\n' >"$tmp/foreign"
 says "" "stopped 35: steps 0, stack 1, listed 0" "$tmp/foreign"
+printf 'table 1 2 1 1\nleft 2\nlength 1\nentered 0\nrow 0 : 0 1024 0\n' >"$tmp/foreign"
+says "" "wrong at 0: steps 0, expected unknown (46)" "$tmp/foreign"
+says "1" "stopped 35: steps 0, stack 1, listed 0" "$tmp/foreign"
 awk 'BEGIN { printf "2"; for (i = 0; i < 65535; i++) printf " 1"; print "" }' >"$tmp/long"
 says "$(cat "$tmp/long")" "refused 25: input too long" "$here/a.table"
 
@@ -68,6 +86,9 @@ bad "" "$here"
 bad "" /dev/null
 bad "" "$here/a.lines"
 bad "" "$here/a.table" many
+bad "" "$here/a.table" 1 2 3 many
+bad "" "$here/a.table" 1 2 3 16777217
+bad "" "$here/a.table" 1 2 3 4 5
 for limit in 18446744073709551616 18446744073709551620 36893488147419103232 99999999999999999999999 4294967296x -1 +5 \
     0x5 ""; do
     bad "" "$here/a.table" "$limit"

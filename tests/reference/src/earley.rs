@@ -1,5 +1,5 @@
-//! Is an input a sentence, and how much of it begins one? Earley's sets, for
-//! any grammar without useless nonterminals.
+//! Is an input a sentence, how much of it begins one, and what can follow that?
+//! Earley's sets, for any grammar without useless nonterminals.
 
 use std::collections::HashSet;
 
@@ -10,6 +10,9 @@ pub struct Recognition {
     pub sentence: bool,
     /// How many terminals of the input begin a sentence.
     pub begins: usize,
+    /// What can follow these terminals: bit m where they and m begin a sentence, bit 0
+    /// where they are one.
+    pub follow: u64,
 }
 
 /// A production, the dot in it and the position where it began.
@@ -69,6 +72,13 @@ pub fn recognise(grammar: &Grammar, input: &[u8]) -> Recognition {
         }
     }
     let begins = sets.iter().take_while(|set| !set.items.is_empty()).count() - 1;
-    let sentence = sets[input.len()].known.contains(&(grammar.added(), 1, 0));
-    Recognition { sentence, begins }
+    let sentence = |set: &Set| set.known.contains(&(grammar.added(), 1, 0));
+    let mut follow = u64::from(sentence(&sets[begins]));
+    for &(production, dot, _) in &sets[begins].items {
+        match grammar.rights[production].get(dot) {
+            Some(&symbol) if grammar.card.is_terminal(symbol) => follow |= 1 << symbol,
+            _ => {}
+        }
+    }
+    Recognition { sentence: sentence(&sets[input.len()]), begins, follow }
 }
