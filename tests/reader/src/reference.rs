@@ -5,14 +5,17 @@ pub struct Outcome {
     pub out: [u64; 7],
     // The most stack places ever in use; 0 for a refusal.
     pub high: usize,
-    // Of the fresh readings: the most steps and places that one took, the number that one stopped on (or 0), whether one
+    // Of the fresh readings: the most steps and places that one took, whether one stopped on 32, 33 and 35, whether one
     // reduced more often than the list has places, and the step at which one was given up (or 0).
     pub fresh_steps: u64,
     pub fresh_high: usize,
-    pub stopped: u64,
+    pub stopped: [bool; 3],
     pub past_list: bool,
     pub endless: u64,
 }
+
+// The ends of a fresh reading that make 46 of 31.
+pub const STOPS: [u64; 3] = [32, 33, 35];
 
 // A fresh reading that makes so many steps behind the last terminal before the position is taken for endless.
 pub const PATIENCE: u64 = 3000;
@@ -200,7 +203,8 @@ impl Machine<'_> {
     }
 }
 
-// The fresh readings over the terminals before the position: what is offered, or None where one stops.
+// The fresh readings over the terminals before the position: what is offered, or None where one stops. All are made,
+// also behind one that stops: another reader may take them in another order, and wait for one without an end.
 fn offer(machine: &Machine, terminals: usize, before: &[u8], list: usize, o: &mut Outcome) -> Option<u64> {
     let mut line = before.to_vec();
     let mut offered = 0;
@@ -217,17 +221,11 @@ fn offer(machine: &Machine, terminals: usize, before: &[u8], list: usize, o: &mu
         match end {
             Some(0) => offered |= 1u64 << m,
             Some(31) => {}
-            Some(number) => {
-                o.stopped = number;
-                return None;
-            }
-            None => {
-                o.endless = run.steps;
-                return None;
-            }
+            Some(number) => o.stopped[STOPS.iter().position(|&n| n == number).unwrap()] = true,
+            None => o.endless = o.endless.max(run.steps),
         }
     }
-    Some(offered)
+    (!o.stopped.contains(&true) && o.endless == 0).then_some(offered)
 }
 
 // A call: what is lent to it.
@@ -240,8 +238,15 @@ pub struct Lent<'a> {
 pub fn parse(table: &[u16], input: &[u8], lent: Lent, step_limit: u64) -> Outcome {
     let Lent { stack, list, second } = lent;
     let zeros = [0; 7];
-    let mut o =
-        Outcome { out: zeros, high: 0, fresh_steps: 0, fresh_high: 0, stopped: 0, past_list: false, endless: 0 };
+    let mut o = Outcome {
+        out: zeros,
+        high: 0,
+        fresh_steps: 0,
+        fresh_high: 0,
+        stopped: [false; 3],
+        past_list: false,
+        endless: 0,
+    };
     if let Some(n) = refusal(table, input, stack.len(), second.len()) {
         o.out[0] = n;
         return o;

@@ -151,7 +151,7 @@ impl Limits {
 // How often 31 and 46 came in ways that wrong fresh readings answer otherwise.
 #[derive(Default)]
 struct Offers {
-    // 46 by 32, 33 and 35.
+    // 46 by 32, 33 and 35, each alone.
     stopped: [u64; 3],
     // 31 with another set than the top row has; with none; with terminal 63.
     moved: u64,
@@ -169,8 +169,9 @@ struct Offers {
 
 impl Offers {
     fn count(&mut self, c: &Case, o: &Outcome, stack: &[u16]) {
-        for (many, number) in self.stopped.iter_mut().zip([32, 33, 35]) {
-            *many += (o.out[0] == 46 && o.stopped == number) as u64;
+        let alone = o.stopped.iter().filter(|&&stopped| stopped).count() == 1;
+        for (many, stopped) in self.stopped.iter_mut().zip(o.stopped) {
+            *many += (alone && stopped) as u64;
         }
         if o.out[0] != 31 {
             return;
@@ -188,9 +189,9 @@ impl Offers {
 
     fn all(&self) -> [Counted; 11] {
         [
-            ("46 by 32", self.stopped[0], 100),
-            ("46 by 33", self.stopped[1], 100),
-            ("46 by 35", self.stopped[2], 100),
+            ("46 by 32 alone", self.stopped[0], 100),
+            ("46 by 33 alone", self.stopped[1], 100),
+            ("46 by 35 alone", self.stopped[2], 100),
             ("31 with another set than the top row's", self.moved, 100),
             ("31 with an empty set", self.none, 100),
             ("31 with terminal 63", self.last, 100),
@@ -227,7 +228,7 @@ impl Second {
         }
         self.equal += end * (second == stack) as u64;
         self.past_stack += (number == 31 && o.fresh_high > stack) as u64;
-        self.full += (number == 46 && o.stopped == 33 && second > stack) as u64;
+        self.full += (o.stopped == [false, true, false] && second > stack) as u64;
     }
 
     fn all(&self) -> [Counted; 9] {
@@ -240,7 +241,7 @@ impl Second {
             ("26 beside 45", self.beside[3], 100),
             ("an end with both areas as long", self.equal, 100),
             ("31 where a fresh reading used more places than the stack has", self.past_stack, 100),
-            ("46 by 33 in a second area longer than the stack", self.full, 100),
+            ("46 by 33 alone in a second area longer than the stack", self.full, 100),
         ]
     }
 }
