@@ -208,7 +208,7 @@ fn pass(
     }
 }
 
-// The passes after the first, by which some terminals were found and some were left.
+// The passes after the first, which has found some terminals and left others undecided.
 fn others(
     table: &[u16],
     cells: &[u16],
@@ -217,12 +217,12 @@ fn others(
     z: Shape,
     step_limit: u64,
     first: u64,
-    left: u64,
+    undecided: u64,
 ) -> Expected
-    requires { ⌜ (Readable (now table) (now cells) z) × (inputOk (now table) (now line) ≡ true) × (0 < length (now second)) × (Deciding (now table) «step_limit» (length (now second)) (now line) left first) ⌝ }
+    requires { ⌜ (Readable (now table) (now cells) z) × (inputOk (now table) (now line) ≡ true) × (0 < length (now second)) × (Deciding (now table) «step_limit» (length (now second)) (now line) undecided first) ⌝ }
     ensures { λ r. ⌜ Explores (now (table .entry)) «step_limit» (length (now (second .entry))) (now (line .entry)) r ⌝ }
 {
-    let mut todo = left;
+    let mut todo = undecided;
     let mut found = first;
     while todo != 0 {
         let n = pass(table, cells, line, second, z, step_limit, todo);

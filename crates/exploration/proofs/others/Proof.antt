@@ -9,11 +9,11 @@ use Rattle.exploration.proofs.others.Statement.{statement}
 use Rattle.exploration.proofs.others.Tie as tie
 
 abbrev Inv-loop : tie.InvT-loop
-Inv-loop table cells line second₀ z step-limit first left todo₀ found₀ second todo found =
+Inv-loop table cells line second₀ z step-limit first undecided todo₀ found₀ second todo found =
     Deciding table step-limit (length second₀) line todo found × (length second ≡ length second₀)
 
 abbrev μ-loop : tie.MeasureT-loop
-μ-loop table cells line second₀ z step-limit first left todo₀ found₀ second todo found = count (bit todo) 64
+μ-loop table cells line second₀ z step-limit first undecided todo₀ found₀ second todo found = count (bit todo) 64
 
 loop-holds : tie.Need-loop-holds Inv-loop μ-loop
 loop-holds c = (c .before .before .before .before .pre .3, refl)
