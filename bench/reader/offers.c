@@ -182,6 +182,8 @@ static struct times row(const struct grammar *g, enum kind kind, size_t n, int r
 
 static void summary(const char *what, double without, double bison)
 {
+    if (without == 0)
+        return;
     printf("largest ratios from %d terminals on, %s: %.2f of the reading without a set (goal 2.2)", LONG, what, without);
     if (bison > 0)
         printf(", %.2f of Bison (goal 0.8)", bison);
