@@ -103,7 +103,10 @@ enum {
  * 1.4 for 256 rows of few cells, 7 to 26 for the largest table, of 32260 numbers (7 where no cell names a state, 21 where
  * all but those of column 0 do, 26 where half of them do by chance); then some 3 nanoseconds a step
  * in short inputs (bench/reader/checks.sh and calls.c), 3.5 to 6.5 in long ones (turns.sh), on an AMD EPYC. For an
- * input of 9 terminals and 20 steps by JSON's table the check is six sevenths of the time.
+ * input of 9 terminals and 20 steps by JSON's table the check is six sevenths of the time. Zeroing the second area takes
+ * 0.02 microseconds for 1000 places. What can follow (31) takes as long again as the input before the position, and where
+ * the terminals that can follow are reduced under in different ways, that long for each way (bench/reader/offers.sh:
+ * twice the time of the reading alone in most grammars, nine times in one made for it).
  *
  * To callers of the call without a second area:
  * - Compile again, with this header, every file that calls it, and link with the archive that belongs to this header. The
@@ -113,7 +116,7 @@ enum {
  *   step_limit.
  * - What changes in the answers is SIDUMZA_EXPECTED and its count, and that 46 may come in place of 31. Stack, list and all
  *   other numbers are the same for every input, and so is every end other than 31.
- * - Where 31 was told by number, 46 wants the same treatment, without an expected set. A step limit or a stack that an
+ * - Code that knows a wrong input by 31 must know it by 46, too, without an expected set. A step limit or a stack that an
  *   input just uses up may be too small for the fresh readings; where 31 came with step limit 0, 46 comes now.
  *
  * To callers of the call whose step_limit was a uint32_t:
