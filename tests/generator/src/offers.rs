@@ -137,27 +137,17 @@ fn right(at: &Place) -> Option<u64> {
     offered(at, |m| at.fresh().line(at.before(), m))
 }
 
-/// Fresh readings with another beginning.
-fn begun(at: &Place, begin: fn(&Place, &mut Fresh)) -> Option<u64> {
-    offered(at, |m| {
-        let mut fresh = at.fresh();
-        begin(at, &mut fresh);
-        fresh.line(at.before(), m)
-    })
-}
-
-/// Fresh readings whose end is taken otherwise: the place, the reading, the terminal and
-/// the end.
-fn taken(at: &Place, take: fn(&Place, &Fresh, u8, u64) -> u64) -> Option<u64> {
+/// Fresh readings whose end is taken otherwise: by the reading, its terminal and its end.
+fn taken(at: &Place, take: impl Fn(&Fresh, u8, u64) -> u64) -> Option<u64> {
     offered(at, |m| {
         let mut fresh = at.fresh();
         let end = fresh.line(at.before(), m);
-        take(at, &fresh, m, end)
+        take(&fresh, m, end)
     })
 }
 
 /// As the parser, with another expected set; none for 46.
-fn by_offer(offer: fn(&Place) -> Option<u64>) -> Box<Parser> {
+fn by_offer(offer: impl Fn(&Place) -> Option<u64> + 'static) -> Box<Parser> {
     Box::new(move |table, input, stack, list, second, limit| {
         let mut out = parse(table, input, stack, list, second, limit).out();
         if out[0] != 31 && out[0] != 46 {
@@ -174,55 +164,83 @@ fn by_offer(offer: fn(&Place) -> Option<u64>) -> Box<Parser> {
     })
 }
 
-/// Right in spite of its name: the base of the others.
+/// Right, with the fresh readings of this file: what the others are made from.
 pub fn base() -> Box<Parser> {
     by_offer(right)
+}
+
+/// The cells of the top row that are not 0.
+fn top(at: &Place) -> Option<u64> {
+    Some(top_row(at.table, at.states[at.states.len() - 1]))
+}
+
+/// Those of the row where the terminals before the position end.
+fn before_reductions(at: &Place) -> Option<u64> {
+    let mut fresh = at.fresh();
+    fresh.all(at.before());
+    Some(top_row(at.table, fresh.states[fresh.states.len() - 1]))
+}
+
+/// With the terminal met left in the line.
+fn behind_met(at: &Place) -> Option<u64> {
+    let line = &at.input[..at.input.len().min(at.position + 1)];
+    offered(at, |m| at.fresh().line(line, m))
+}
+
+/// Not anew, but from the stack as it is.
+fn from_stack(at: &Place) -> Option<u64> {
+    offered(at, |m| {
+        let mut fresh = at.fresh();
+        fresh.states = at.states.to_vec();
+        fresh.read(m)
+    })
+}
+
+/// Only what makes a sentence of the line.
+fn sentences(at: &Place) -> Option<u64> {
+    offered(at, |m| {
+        let mut fresh = at.fresh();
+        match fresh.line(at.before(), m) {
+            0 if m != 0 => fresh.read(0),
+            end => end,
+        }
+    })
+}
+
+/// 0 where it has any action.
+fn any_action(at: &Place) -> Option<u64> {
+    offered(at, |m| {
+        let mut fresh = at.fresh();
+        fresh.all(at.before());
+        if m == 0 && fresh.action(0) != 0 {
+            return 0;
+        }
+        fresh.read(m)
+    })
+}
+
+/// Not the highest terminal.
+fn no_last(at: &Place) -> Option<u64> {
+    right(at).map(|set| set & !(1 << at.last()))
+}
+
+/// The lowest alone.
+fn lowest(at: &Place) -> Option<u64> {
+    right(at).map(|set| set & set.wrapping_neg())
+}
+
+/// What was found, also where a reading stopped.
+fn what_was_found(at: &Place) -> Option<u64> {
+    taken(at, |_, _, end| if end == 0 { 0 } else { 31 })
 }
 
 /// Sets that are wrong also with steps and places enough: they are found without the
 /// reference.
 pub fn sets() -> Vec<(&'static str, Box<Parser>)> {
-    let top = |at: &Place| Some(top_row(at.table, at.states[at.states.len() - 1]));
-    let before = |at: &Place| {
-        let mut fresh = at.fresh();
-        fresh.all(at.before());
-        Some(top_row(at.table, fresh.states[fresh.states.len() - 1]))
-    };
-    let behind = |at: &Place| {
-        let line = &at.input[..at.input.len().min(at.position + 1)];
-        offered(at, |m| at.fresh().line(line, m))
-    };
-    let from_stack = |at: &Place| {
-        offered(at, |m| {
-            let mut fresh = at.fresh();
-            fresh.states = at.states.to_vec();
-            fresh.read(m)
-        })
-    };
-    let sentences = |at: &Place| {
-        offered(at, |m| {
-            let mut fresh = at.fresh();
-            let end = fresh.line(at.before(), m);
-            if end == 0 && m != 0 {
-                return fresh.read(0);
-            }
-            end
-        })
-    };
-    let any_action = |at: &Place| {
-        offered(at, |m| {
-            let mut fresh = at.fresh();
-            fresh.all(at.before());
-            if m == 0 && fresh.action(0) != 0 {
-                return 0;
-            }
-            fresh.read(m)
-        })
-    };
     vec![
         ("expected: the top row", by_offer(top)),
-        ("expected: the row before the reductions", by_offer(before)),
-        ("expected: behind the terminal met", by_offer(behind)),
+        ("expected: the row before the reductions", by_offer(before_reductions)),
+        ("expected: behind the terminal met", by_offer(behind_met)),
         ("expected: read on from the stack as it is", by_offer(from_stack)),
         ("expected: only what ends a sentence", by_offer(sentences)),
         ("expected: 0 for any action", by_offer(any_action)),
@@ -230,77 +248,68 @@ pub fn sets() -> Vec<(&'static str, Box<Parser>)> {
         ("expected: 0 never", by_offer(|at| right(at).map(|set| set & !1))),
         ("expected: terminal 1 left out", by_offer(|at| right(at).map(|set| set & !2))),
         ("expected: terminal 63 left out", by_offer(|at| right(at).map(|set| set << 1 >> 1))),
-        (
-            "expected: terminal T - 1 left out",
-            by_offer(|at| right(at).map(|set| set & !(1 << at.last()))),
-        ),
-        (
-            "expected: the lowest alone",
-            by_offer(|at| right(at).map(|set| set & set.wrapping_neg())),
-        ),
-        (
-            "expected: what was found in place of 46",
-            by_offer(|at| taken(at, |_, _, _, end| if end == 0 { 0 } else { 31 })),
-        ),
+        ("expected: terminal T - 1 left out", by_offer(no_last)),
+        ("expected: the lowest alone", by_offer(lowest)),
+        ("expected: what was found in place of 46", by_offer(what_was_found)),
     ]
+}
+
+/// Fresh readings with a changed limit.
+fn limited(change: fn(&Place, &mut Fresh)) -> impl Fn(&Place) -> Option<u64> {
+    move |at| {
+        offered(at, |m| {
+            let mut fresh = at.fresh();
+            change(at, &mut fresh);
+            fresh.line(at.before(), m)
+        })
+    }
+}
+
+/// The acceptance without a step left.
+fn free_acceptance(at: &Place) -> Option<u64> {
+    taken(at, |fresh, m, end| if end == 32 && fresh.action(m) == 4096 { 0 } else { end })
+}
+
+/// The last shift without a step or place left.
+fn free_shift(at: &Place) -> Option<u64> {
+    taken(at, |fresh, m, end| match end {
+        32 | 33 if m != 0 && fresh.action(m) < 1024 => 0,
+        _ => end,
+    })
+}
+
+/// 46 only where nothing is found.
+fn found_or_unknown(at: &Place) -> Option<u64> {
+    right(at).or(what_was_found(at).filter(|&set| set != 0))
+}
+
+/// 46 not where only the end marker's reading stops.
+fn no_stop_for_end(at: &Place) -> Option<u64> {
+    taken(at, |_, m, end| if m == 0 && end != 0 { 31 } else { end })
+}
+
+/// A stop that is taken for wrong.
+fn no_stop(number: u64) -> impl Fn(&Place) -> Option<u64> {
+    move |at| taken(at, |_, _, end| if end == number { 31 } else { end })
 }
 
 /// Fresh readings with other limits.
 pub fn limits() -> Vec<(&'static str, Box<Parser>)> {
+    let limit = |change| by_offer(limited(change));
     vec![
-        ("fresh: the steps left", by_offer(|at| begun(at, |at, f| f.limit = at.limit - at.steps))),
-        (
-            "fresh: one step fewer",
-            by_offer(|at| begun(at, |_, f| f.limit = f.limit.saturating_sub(1))),
-        ),
-        (
-            "fresh: one step more",
-            by_offer(|at| begun(at, |_, f| f.limit = f.limit.saturating_add(1))),
-        ),
-        (
-            "fresh: limit modulo 2^32",
-            by_offer(|at| begun(at, |_, f| f.limit &= u64::from(u32::MAX))),
-        ),
-        ("fresh: places of the stack", by_offer(|at| begun(at, |at, f| f.places = at.lengths[0]))),
-        ("fresh: one place fewer", by_offer(|at| begun(at, |_, f| f.places -= 1))),
-        ("fresh: one place more", by_offer(|at| begun(at, |_, f| f.places += 1))),
-        ("fresh: stopped by the list", by_offer(|at| begun(at, |at, f| f.list = at.lengths[1]))),
-        (
-            "fresh: acceptance without a step left",
-            by_offer(|at| {
-                taken(at, |_, f, m, end| match end {
-                    32 if f.action(m) == 4096 => 0,
-                    _ => end,
-                })
-            }),
-        ),
-        (
-            "fresh: shift without a step or place left",
-            by_offer(|at| {
-                taken(at, |_, f, m, end| match end {
-                    32 | 33 if m != 0 && f.action(m) < 1024 => 0,
-                    _ => end,
-                })
-            }),
-        ),
-        (
-            "fresh: 32 is no 46",
-            by_offer(|at| taken(at, |_, _, _, end| if end == 32 { 31 } else { end })),
-        ),
-        (
-            "fresh: 33 is no 46",
-            by_offer(|at| taken(at, |_, _, _, end| if end == 33 { 31 } else { end })),
-        ),
-        (
-            "fresh: 46 only where nothing is found",
-            by_offer(|at| {
-                let found = taken(at, |_, _, _, end| if end == 0 { 0 } else { 31 });
-                right(at).or(found.filter(|&set| set != 0))
-            }),
-        ),
-        (
-            "fresh: 46 not for the end marker",
-            by_offer(|at| taken(at, |_, _, m, end| if m == 0 && end != 0 { 31 } else { end })),
-        ),
+        ("fresh: the steps left", limit(|at, f| f.limit = at.limit - at.steps)),
+        ("fresh: one step fewer", limit(|_, f| f.limit = f.limit.saturating_sub(1))),
+        ("fresh: one step more", limit(|_, f| f.limit = f.limit.saturating_add(1))),
+        ("fresh: limit modulo 2^32", limit(|_, f| f.limit &= u64::from(u32::MAX))),
+        ("fresh: places of the stack", limit(|at, f| f.places = at.lengths[0])),
+        ("fresh: one place fewer", limit(|_, f| f.places -= 1)),
+        ("fresh: one place more", limit(|_, f| f.places += 1)),
+        ("fresh: stopped by the list", limit(|at, f| f.list = at.lengths[1])),
+        ("fresh: acceptance without a step left", by_offer(free_acceptance)),
+        ("fresh: shift without a step or place left", by_offer(free_shift)),
+        ("fresh: 32 is no 46", by_offer(no_stop(32))),
+        ("fresh: 33 is no 46", by_offer(no_stop(33))),
+        ("fresh: 46 only where nothing is found", by_offer(found_or_unknown)),
+        ("fresh: 46 not for the end marker", by_offer(no_stop_for_end)),
     ]
 }

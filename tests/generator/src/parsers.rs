@@ -68,107 +68,114 @@ fn answers() -> Vec<(&'static str, Box<Parser>)> {
     ]
 }
 
+fn list_reversed(left: &mut Left) {
+    let listed = left.listed();
+    left.list[..listed].reverse();
+}
+
+fn popped_left(left: &mut Left) {
+    let depth = left.depth();
+    left.stack[depth..].copy_from_slice(&left.old[0][depth..]);
+}
+
+fn stack_cleared_behind(left: &mut Left) {
+    let depth = left.depth();
+    left.stack[depth..].fill(0);
+}
+
+fn other_states(left: &mut Left) {
+    let depth = left.depth();
+    left.stack[..depth].iter_mut().skip(1).for_each(|state| *state ^= 1);
+}
+
+fn list_cleared_behind(left: &mut Left) {
+    let listed = left.listed();
+    left.list[listed..].fill(0);
+}
+
+fn kept_where_it_ran_out(left: &mut Left) {
+    if (32..=34).contains(&left.out[0]) {
+        left.stack.copy_from_slice(left.old[0]);
+        left.list.copy_from_slice(left.old[1]);
+    }
+}
+
+fn written_before_checks(left: &mut Left) {
+    if left.out[0] == 26 {
+        left.stack.iter_mut().take(1).for_each(|state| *state = 0);
+    }
+}
+
+fn unknown_cleared(left: &mut Left) {
+    if left.out[0] == 46 {
+        let depth = left.depth();
+        left.stack[..depth].fill(0);
+    }
+}
+
 /// Wrong in the places of stack and list.
 fn areas() -> Vec<(&'static str, Box<Parser>)> {
-    let ran_out = |left: &mut Left| {
-        if (32..=34).contains(&left.out[0]) {
-            left.stack.copy_from_slice(left.old[0]);
-            left.list.copy_from_slice(left.old[1]);
-        }
-    };
-    let unknown = |left: &mut Left| {
-        if left.out[0] == 46 {
-            let depth = left.depth();
-            left.stack[..depth].fill(0);
-        }
-    };
-    let reversed = |left: &mut Left| {
-        let listed = left.listed();
-        left.list[..listed].reverse();
-    };
-    let popped = |left: &mut Left| {
-        let depth = left.depth();
-        left.stack[depth..].copy_from_slice(&left.old[0][depth..]);
-    };
-    let cleared = |left: &mut Left| {
-        let depth = left.depth();
-        left.stack[depth..].fill(0);
-    };
-    let other = |left: &mut Left| {
-        let depth = left.depth();
-        left.stack[..depth].iter_mut().skip(1).for_each(|state| *state ^= 1);
-    };
-    let list_cleared = |left: &mut Left| {
-        let listed = left.listed();
-        left.list[listed..].fill(0);
-    };
-    let before_checks = |left: &mut Left| {
-        if left.out[0] == 26 {
-            left.stack.iter_mut().take(1).for_each(|state| *state = 0);
-        }
-    };
     vec![
-        ("list the other way round", with(reversed)),
-        ("popped places as they were", with(popped)),
-        ("stack cleared behind the places in use", with(cleared)),
-        ("another state on the stack", with(other)),
-        ("list cleared behind the productions listed", with(list_cleared)),
-        ("areas kept where the parser ran out", with(ran_out)),
-        ("first place written before the checks", with(before_checks)),
-        ("46: the stack cleared", with(unknown)),
+        ("list the other way round", with(list_reversed)),
+        ("popped places as they were", with(popped_left)),
+        ("stack cleared behind the places in use", with(stack_cleared_behind)),
+        ("another state on the stack", with(other_states)),
+        ("list cleared behind the productions listed", with(list_cleared_behind)),
+        ("areas kept where the parser ran out", with(kept_where_it_ran_out)),
+        ("first place written before the checks", with(written_before_checks)),
+        ("46: the stack cleared", with(unknown_cleared)),
     ]
+}
+
+/// Leaves the second area as it was after some ends.
+fn second_left(applies: fn(u64) -> bool) -> Box<Parser> {
+    Box::new(move |table, input, stack, list, second, limit| {
+        let old = second.to_vec();
+        let out = parse(table, input, stack, list, second, limit).out();
+        if out[2] > 0 && applies(out[0]) {
+            second.copy_from_slice(&old);
+        }
+        out
+    })
+}
+
+fn last_left(left: &mut Left) {
+    if let (true, [.., place]) = (left.is_end(), &mut *left.second) {
+        *place = *left.old[2].last().expect("as long");
+    }
+}
+
+fn behind_left(left: &mut Left) {
+    if left.is_end() {
+        let least = left.stack.len();
+        left.second[least..].copy_from_slice(&left.old[2][least..]);
+    }
+}
+
+fn cleared_by_refusal(left: &mut Left) {
+    if !left.is_end() {
+        left.second.fill(0);
+    }
+}
+
+fn state_left(left: &mut Left) {
+    if left.is_end() {
+        left.second[0] = 1;
+    }
 }
 
 /// Wrong in the places of the second area.
 fn second_area() -> Vec<(&'static str, Box<Parser>)> {
-    let left_where = |applies: fn(&Left) -> bool| {
-        Box::new(
-            move |t: &[u16], i: &[u8], s: &mut [u16], l: &mut [u16], v: &mut [u16], limit: u64| {
-                let old = v.to_vec();
-                let mut out = parse(t, i, s, l, v, limit).out();
-                let left =
-                    Left { out: &mut out, stack: s, list: l, second: v, old: [&[], &[], &old] };
-                if left.is_end() && applies(&left) {
-                    left.second.copy_from_slice(&old);
-                }
-                out
-            },
-        )
-    };
-    let last = |left: &mut Left| {
-        if let (true, [.., place]) = (left.is_end(), &mut *left.second) {
-            *place = *left.old[2].last().expect("as long");
-        }
-    };
-    let behind = |left: &mut Left| {
-        if left.is_end() {
-            let least = left.stack.len();
-            left.second[least..].copy_from_slice(&left.old[2][least..]);
-        }
-    };
-    let refused = |left: &mut Left| {
-        if !left.is_end() {
-            left.second.fill(0);
-        }
-    };
-    let first = |left: &mut Left| {
-        if left.is_end() {
-            left.second[0] = 1;
-        }
-    };
     vec![
-        ("second area left", left_where(|_| true)),
-        (
-            "second area left where no fresh reading is",
-            left_where(|l| l.out[0] < 31 || l.out[0] < 46 && l.out[0] > 31),
-        ),
-        ("second area left after 31", left_where(|left| left.out[0] == 31)),
-        ("second area left after 46", left_where(|left| left.out[0] == 46)),
-        ("second area left after acceptance", left_where(|left| left.out[0] == 0)),
-        ("second area: last place left", with(last)),
-        ("second area: zero as far as the stack is long", with(behind)),
-        ("second area: zero after a refusal", with(refused)),
-        ("second area: a state left at its bottom", with(first)),
+        ("second area left", second_left(|_| true)),
+        ("second area left where no fresh reading is", second_left(|end| end != 31 && end != 46)),
+        ("second area left after 31", second_left(|end| end == 31)),
+        ("second area left after 46", second_left(|end| end == 46)),
+        ("second area left after acceptance", second_left(|end| end == 0)),
+        ("second area: last place left", with(last_left)),
+        ("second area: zero as far as the stack is long", with(behind_left)),
+        ("second area: zero after a refusal", with(cleared_by_refusal)),
+        ("second area: a state left at its bottom", with(state_left)),
     ]
 }
 
@@ -210,46 +217,57 @@ fn limits() -> Vec<(&'static str, Box<Parser>)> {
     ]
 }
 
+/// A refusal by 45, out of order.
+const SECOND_SHORT: [u64; 7] = [45, 0, 0, 0, 0, 0, 0];
+
+/// 45 where both areas are as long, after all other refusals.
+fn equal_refused() -> Box<Parser> {
+    Box::new(|table, input, stack, list, second, limit| {
+        let equal = second.len() == stack.len() && !stack.is_empty();
+        let [mut other, mut others] = [stack.to_vec(), second.to_vec()];
+        match parse(table, input, &mut other, &mut [], &mut others, 0).number {
+            0 | 31.. if equal => SECOND_SHORT,
+            _ => parse(table, input, stack, list, second, limit).out(),
+        }
+    })
+}
+
+/// As with a second area of the stack's length, whatever its own is.
+fn never_refused() -> Box<Parser> {
+    Box::new(|table, input, stack, list, second, limit| {
+        let mut longer = second.to_vec();
+        longer.resize(second.len().max(stack.len()), 0);
+        let out = parse(table, input, stack, list, &mut longer, limit).out();
+        second.copy_from_slice(&longer[..second.len()]);
+        out
+    })
+}
+
+/// As with a stack one place shorter, where one place is missing.
+fn one_missing_passes() -> Box<Parser> {
+    Box::new(|table, input, stack, list, second, limit| {
+        let one_missing = second.len() + 1 == stack.len() && !second.is_empty();
+        let used = stack.len() - usize::from(one_missing);
+        parse(table, input, &mut stack[..used], list, second, limit).out()
+    })
+}
+
+fn refused_first() -> Box<Parser> {
+    Box::new(|table, input, stack, list, second, limit| {
+        if second.len() < stack.len() {
+            return SECOND_SHORT;
+        }
+        parse(table, input, stack, list, second, limit).out()
+    })
+}
+
 /// Wrong in when 45 comes.
 fn second_short() -> Vec<(&'static str, Box<Parser>)> {
     vec![
-        (
-            "45 where both areas are as long",
-            Box::new(|table, input, stack, list, second, limit| {
-                let equal = second.len() == stack.len() && !stack.is_empty();
-                let [mut other, mut others] = [stack.to_vec(), second.to_vec()];
-                match parse(table, input, &mut other, &mut [], &mut others, 0).number {
-                    0 | 31.. if equal => [45, 0, 0, 0, 0, 0, 0],
-                    _ => parse(table, input, stack, list, second, limit).out(),
-                }
-            }),
-        ),
-        (
-            "45 never",
-            Box::new(|table, input, stack, list, second, limit| {
-                let mut longer = second.to_vec();
-                longer.resize(second.len().max(stack.len()), 0);
-                let out = parse(table, input, stack, list, &mut longer, limit).out();
-                second.copy_from_slice(&longer[..second.len()]);
-                out
-            }),
-        ),
-        (
-            "45 only where two places are missing",
-            Box::new(|table, input, stack, list, second, limit| {
-                let used = stack.len().min(second.len());
-                let enough = second.len() + 1 == stack.len() && used > 0;
-                let used = if enough { used } else { stack.len() };
-                parse(table, input, &mut stack[..used], list, second, limit).out()
-            }),
-        ),
-        (
-            "45 before 26",
-            Box::new(|table, input, stack, list, second, limit| match second.len() < stack.len() {
-                true => [45, 0, 0, 0, 0, 0, 0],
-                false => parse(table, input, stack, list, second, limit).out(),
-            }),
-        ),
+        ("45 where both areas are as long", equal_refused()),
+        ("45 never", never_refused()),
+        ("45 only where two places are missing", one_missing_passes()),
+        ("45 before 26", refused_first()),
     ]
 }
 

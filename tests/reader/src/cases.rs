@@ -507,23 +507,8 @@ fn huge(r: &mut Random, c: &mut Case, languages: &[Language], spare: &mut Vec<u1
             }
             c.input.truncate(n);
         }
-        2 => {
-            // Every terminal shifts, and state 2 pushes by the empty production 0 without end.
-            c.table.extend([3, 2, 1, 1, 2, 0, 0, 1, 2]);
-            c.table.extend([1024, r.of(&[1, 1024]), 2]);
-            c.table.extend([r.of(&[0, 4096]), 1, 0]);
-            c.table.extend([1024, 1024, 2]);
-            c.input.resize(n, 1);
-        }
-        _ => {
-            foreign(r, spare);
-            while spare[1] < 2 {
-                foreign(r, spare);
-            }
-            c.table.extend(&spare[..]);
-            let t = spare[1] as usize;
-            c.input.extend((0..n).map(|_| r.between(1, t - 1) as u8));
-        }
+        2 => pushing(r, c, n),
+        _ => huge_foreign(r, c, spare, n),
     }
     if r.one_in(4) {
         enter_otherwise(r, &mut c.table);
@@ -533,4 +518,23 @@ fn huge(r: &mut Random, c: &mut Case, languages: &[Language], spare: &mut Vec<u1
     let second = r.of(&[69999, 70000, 70000, 70001, 70040]);
     fill(r, &mut c.second, second);
     c.limit = r.of(&[150000, u32::MAX as u64, 1 << 32, u64::MAX]);
+}
+
+// Every terminal shifts, and state 2 pushes by the empty production 0 without end; at the end there may be no action.
+fn pushing(r: &mut Random, c: &mut Case, n: usize) {
+    c.table.extend([3, 2, 1, 1, 2, 0, 0, 1, 2]);
+    c.table.extend([1024, r.of(&[1, 1024]), 2]);
+    c.table.extend([r.of(&[0, 4096]), 1, 0]);
+    c.table.extend([1024, 1024, 2]);
+    c.input.resize(n, 1);
+}
+
+fn huge_foreign(r: &mut Random, c: &mut Case, spare: &mut Vec<u16>, n: usize) {
+    foreign(r, spare);
+    while spare[1] < 2 {
+        foreign(r, spare);
+    }
+    c.table.extend(&spare[..]);
+    let t = spare[1] as usize;
+    c.input.extend((0..n).map(|_| r.between(1, t - 1) as u8));
 }

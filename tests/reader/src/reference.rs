@@ -1,6 +1,7 @@
 // An independent reader, written from the paper alone: the refusals in order, then the machine over a
 // growing vector, and behind its 31 a fresh reading for each terminal. The areas are filled in at the end.
 
+#[derive(Default)]
 pub struct Outcome {
     pub out: [u64; 7],
     // The most stack places ever in use; 0 for a refusal.
@@ -61,7 +62,8 @@ pub fn top_row(table: &[u16], state: u16) -> u64 {
     (0..terminals).filter(|&m| row[m] != 0).map(|m| 1 << m).sum()
 }
 
-fn refusal(table: &[u16], input: &[u8], stack_len: usize, second_len: usize) -> Option<u64> {
+// The refusals of a table, in order.
+fn table_refusal(table: &[u16]) -> Option<u64> {
     if table.len() < 4 {
         return Some(21);
     }
@@ -94,13 +96,17 @@ fn refusal(table: &[u16], input: &[u8], stack_len: usize, second_len: usize) -> 
             return Some(24);
         }
     }
-    if entered_faults(table).contains(&true) {
-        return Some(44);
+    entered_faults(table).contains(&true).then_some(44)
+}
+
+fn refusal(table: &[u16], input: &[u8], stack_len: usize, second_len: usize) -> Option<u64> {
+    if let Some(number) = table_refusal(table) {
+        return Some(number);
     }
     if input.len() > 65535 {
         return Some(25);
     }
-    if input.iter().any(|&m| m == 0 || m as usize >= terminals) {
+    if input.iter().any(|&m| m == 0 || m as usize >= table[1] as usize) {
         return Some(26);
     }
     if stack_len == 0 {
@@ -237,16 +243,7 @@ pub struct Lent<'a> {
 
 pub fn parse(table: &[u16], input: &[u8], lent: Lent, step_limit: u64) -> Outcome {
     let Lent { stack, list, second } = lent;
-    let zeros = [0; 7];
-    let mut o = Outcome {
-        out: zeros,
-        high: 0,
-        fresh_steps: 0,
-        fresh_high: 0,
-        stopped: [false; 3],
-        past_list: false,
-        endless: 0,
-    };
+    let mut o = Outcome::default();
     if let Some(n) = refusal(table, input, stack.len(), second.len()) {
         o.out[0] = n;
         return o;

@@ -40,13 +40,25 @@ struct Table<'a> {
     rows: Vec<&'a [u16]>,
 }
 
+/// Whether a cell has a value of its column, in a table of `q` states, `t` terminals and
+/// `p` productions.
+fn is_good(column: usize, cell: usize, [q, t, p]: [usize; 3]) -> bool {
+    let state = (1..q).contains(&cell);
+    let reduce = (1024..1024 + p).contains(&cell);
+    match column {
+        _ if cell == 0 => true,
+        0 => reduce || cell == 4096,
+        _ if column < t => state || reduce,
+        _ => state,
+    }
+}
+
 /// Refusals 21 to 24, then 44.
 fn table_of(numbers: &[u16]) -> Result<Table<'_>, u64> {
     if numbers.len() < 4 {
         return Err(21);
     }
-    let size = |i: usize| numbers[i] as usize;
-    let (q, t, n, p) = (size(0), size(1), size(2), size(3));
+    let [q, t, n, p] = [0, 1, 2, 3].map(|at| numbers[at] as usize);
     let fits = (1..=256).contains(&q)
         && (1..=64).contains(&t)
         && (1..=60).contains(&n)
@@ -65,32 +77,16 @@ fn table_of(numbers: &[u16]) -> Result<Table<'_>, u64> {
     }
     let (entered, cells) = numbers[4 + 2 * p..].split_at(q);
     let rows: Vec<&[u16]> = cells.chunks(t + n).take(q).collect();
-    for row in &rows {
-        for (column, &cell) in row.iter().enumerate() {
-            let cell = cell as usize;
-            let state = (1..q).contains(&cell);
-            let reduce = (1024..1024 + p).contains(&cell);
-            let good = match column {
-                _ if cell == 0 => true,
-                0 => reduce || cell == 4096,
-                _ if column < t => state || reduce,
-                _ => state,
-            };
-            if !good {
-                return Err(24);
-            }
-        }
+    let all = || rows.iter().flat_map(|row| row.iter().map(|&cell| cell as usize).enumerate());
+    if !all().all(|(column, cell)| is_good(column, cell, [q, t, p])) {
+        return Err(24);
     }
-    if entered[0] != 0 || entered.iter().any(|&symbol| symbol as usize >= t + n) {
+    let named = |cell: usize| (1..q).contains(&cell).then(|| entered[cell] as usize);
+    if entered[0] != 0
+        || entered.iter().any(|&symbol| symbol as usize >= t + n)
+        || all().any(|(column, cell)| named(cell).is_some_and(|symbol| symbol != column))
+    {
         return Err(44);
-    }
-    for row in &rows {
-        for (column, &cell) in row.iter().enumerate() {
-            let names = (1..q).contains(&(cell as usize));
-            if names && entered[cell as usize] as usize != column {
-                return Err(44);
-            }
-        }
     }
     Ok(Table { terminals: t, lefts, lengths, rows })
 }
@@ -257,16 +253,12 @@ pub fn parse(
             break end;
         }
     };
-    let mut end = Outcome {
-        number,
-        steps: reading.steps,
-        depth: reading.depth as u64,
-        listed: reading.listed as u64,
-        ..Outcome::default()
-    };
+    let Reading { steps, depth, listed, position, .. } = reading;
+    let (depth, listed) = (depth as u64, listed as u64);
+    let mut end = Outcome { number, steps, depth, listed, ..Outcome::default() };
     if number == 31 {
-        end.position = reading.position as u64;
-        match offer(&table, &input[..reading.position], second, step_limit) {
+        end.position = position as u64;
+        match offer(&table, &input[..position], second, step_limit) {
             Some(offered) => {
                 end.expected = offered;
                 end.expected_count = u64::from(offered.count_ones());
