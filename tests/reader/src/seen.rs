@@ -211,7 +211,8 @@ struct Second {
     one: u64,
     more: u64,
     beside: [u64; 4],
-    // An end with both areas as long; 31 and 46 where a fresh reading used more places than the stack has, and 46 by 33.
+    // An end with both areas as long; 31 where a fresh reading used more places than the stack has; 46 by 33 alone in an
+    // area that is longer than the stack.
     equal: u64,
     past_stack: u64,
     full: u64,
