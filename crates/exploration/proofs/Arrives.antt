@@ -20,14 +20,15 @@ use Rattle.unlisted_steps.specs.declared.Spot.{Spot}
 use Rattle.unlisted_steps.proofs.Area.{below-top}
 use Rattle.unlisted_steps.specs.declared.Next.{Next}
 use Rattle.unlisted_steps.specs.declared.Next.the-variants.{Moved}
-use Rattle.exploration.specs.Phases.{Reaches, NoneFollows}
+use Rattle.exploration.specs.Reaches.{Reaches}
+use Rattle.exploration.specs.Phases.{NoneFollows}
 use Rattle.exploration.proofs.Fresh.{alone, comes-start, stops-spent, explored, cut-short}
 use Rattle.exploration.proofs.Moves.{shifted, reduced, shift-comes, shift-stops, reduce-comes, reduce-stops}
 use Rattle.exploration.proofs.Cells.{line-terminal, accept-passed, cell-up-fits, cell-up-is}
 
 -- state 0 alone, before the line
 pub reaches-start : {t : List ℕ} → Checked t → (line st : List ℕ) (limit : ℕ) → 0 < length st
-    → Reaches t limit (length (set st 0 0)) line (set st 0 0) line (record { depth = 1; left = limit; top = 0 })
+    → Reaches t limit (length st) line (set st 0 0) line (record { depth = 1; left = limit; top = 0 })
 reaches-start pa line [] limit h = absurd (omega arith)
 reaches-start pa line (a ∷ st) limit h = record {
   state = 0;
@@ -37,6 +38,10 @@ reaches-start pa line (a ∷ st) limit h = record {
   stands = record { deep = refl; within = omega arith; stacked = refl; top-is = refl; below = Below.more (pa .sizes .states-are .0) Below.none };
   comes = λ y. comes-start (line ++ y) (omega arith);
 }
+
+-- the places are those of the area
+pub reaches-in : {t line st ahead : List ℕ} {limit places : ℕ} {s : Spot} → Reaches t limit places line st ahead s → Reaches t limit (length st) line st ahead s
+reaches-in r = rw (r .long) r
 
 -- ---- with a terminal x of the line ahead
 

@@ -21,7 +21,8 @@ use Rattle.unlisted_steps.specs.declared.Spot.{Spot}
 use Rattle.unlisted_steps.proofs.Area.{below-top}
 use Rattle.unlisted_steps.specs.declared.Next.{Next}
 use Rattle.unlisted_steps.specs.declared.Next.the-variants.{Moved}
-use Rattle.exploration.specs.Phases.{Reaches, Short, no-steps, no-place, Found, Apart, Stuck, Decides}
+use Rattle.exploration.specs.Reaches.{Reaches}
+use Rattle.exploration.specs.Phases.{Short, no-steps, no-place, Found, Apart, Stuck, Decides}
 use Rattle.exploration.specs.declared.Sorted.{Sorted}
 use Rattle.exploration.proofs.Fresh.{alone, peek-alone, comes-step, stops-spent, stops-full, explored, cut-short}
 use Rattle.exploration.proofs.Moves.{reduced, reduce-comes, reduce-stops}

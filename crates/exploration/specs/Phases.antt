@@ -2,15 +2,13 @@
 use Prim.Native.Nat.{ℕ, _-_, _^_, _<_, _≤_}
 use mathlib.Core.Path.{_≡_}
 use mathlib.Core.Logic.{_≢_}
-use mathlib.Core.List.{List, [], _∷_, _++_}
-use lib.ListN.{length}
+use mathlib.Core.List.{List, []}
 use lib.Bits.{bitOr}
 use Rattle.sets.specs.Bit.{Has}
 use Rattle.tables.specs.Layout.{terminals, reduction, accept}
-use Rattle.machine.specs.LrMachine.{conf}
-use Rattle.machine.specs.Exploration.{Comes, Explored, CutShort}
-use Rattle.unlisted_steps.specs.Spot.{Stands}
+use Rattle.machine.specs.Exploration.{Explored, CutShort}
 use Rattle.unlisted_steps.specs.declared.Spot.{Spot}
+use Rattle.exploration.specs.Reaches.{Reaches}
 use Rattle.exploration.specs.declared.Arrival.{Arrival}
 use Rattle.exploration.specs.declared.Arrival.the-variants.{Arrived, Wrong, Cut}
 use Rattle.exploration.specs.declared.Sorted.{Sorted}
@@ -18,15 +16,6 @@ use Rattle.exploration.specs.declared.Sorting.{Sorting}
 use Rattle.exploration.specs.declared.Sorting.the-variants as sorting
 use Rattle.exploration.specs.declared.Passed.{Passed}
 use Rattle.exploration.specs.declared.Passed.the-variants as passed
-
--- every reading of the line and whatever follows it comes to the spot s, with the terminals ahead of the line still to be read; st is the second area there
-pub record Reaches (t : List ℕ) (limit places : ℕ) (line st ahead : List ℕ) (s : Spot) : Type 0 where
-  pub state : ℕ
-  pub under : List ℕ
-  pub listed : List ℕ
-  pub long : length st ≡ places
-  pub stands : Stands t st s state under
-  pub comes : (y : List ℕ) → Comes t limit places (line ++ y) (conf (state ∷ under) (ahead ++ y) listed) (s .left)
 
 -- no terminal can follow: each fresh reading ends in 31
 abbrev pub NoneFollows : List ℕ → ℕ → ℕ → List ℕ → Type 0

@@ -4,15 +4,17 @@ use unlisted_steps::Next;
 use unlisted_steps::Spot;
 ghost use mathlib.Core.Path.{_≡_};
 ghost use mathlib.Core.Bool.{true};
+ghost use mathlib.Core.List.{List};
 ghost use mathlib.Core.Logic.{_↔_};
 ghost use Prim.Native.Nat.{ℕ, _+_, _*_, _<_, _≤_};
-ghost use lib.ListN.{length, getD};
+ghost use lib.ListN.{length, getD, drop};
 ghost use Rattle.sets.specs.Bit.{Has, Tells};
 ghost use Rattle.tables.specs.Layout.{terminals};
 ghost use Rattle.machine.specs.Checks.{inputOk};
 ghost use Rattle.machine.proofs.Checked.{Checked};
 ghost use Rattle.unlisted_steps.specs.Spot.{Readable};
 ghost use Rattle.exploration.specs.Expected.{Explores};
+ghost use Rattle.exploration.specs.Reaches.{Reaches};
 ghost use Rattle.exploration.specs.Phases.{Arrives, Short, Puts, Sorts, Passes, Deciding};
 
 // The terminals that can follow, or that a fresh reading ran out of steps or places, or broke off.
@@ -56,25 +58,35 @@ fn all(n: usize) -> u64
     18446744073709551615 >> (64 - n)
 }
 
-// Reads the line alone, from state 0.
+// The spot before a line: state 0 alone, and all steps left.
+pub fn begin(second: &mut [u16], step_limit: u64) -> Spot
+    requires { ⌜ 0 < length (now second) ⌝ }
+    ensures { λ s. ⌜ ((t line : List ℕ) → Checked t → Reaches t «step_limit» (length (now (second .entry))) line (now (second .exit)) line s) ⌝ }
+{
+    second[0] = 0;
+    Spot {
+        depth: 1,
+        left: step_limit,
+        top: 0,
+    }
+}
+
+// Reads the line alone, from a spot with some of its terminals passed.
 fn arrive(
     table: &[u16],
     cells: &[u16],
     line: &[u8],
     second: &mut [u16],
     z: Shape,
+    from: Spot,
+    passed: usize,
     step_limit: u64,
 ) -> Arrival
-    requires { ⌜ (Readable (now table) (now cells) z) × (inputOk (now table) (now line) ≡ true) × (0 < length (now second)) ⌝ }
+    requires { ⌜ (Readable (now table) (now cells) z) × (inputOk (now table) (now line) ≡ true) × (Reaches (now table) «step_limit» (length (now second)) (now line) (now second) (drop passed (now line)) from) ⌝ }
     ensures { λ r. ⌜ Arrives (now (table .entry)) «step_limit» (length (now (second .entry))) (now (line .entry)) (now (second .exit)) r ⌝ }
 {
-    second[0] = 0;
-    let mut s = Spot {
-        depth: 1,
-        left: step_limit,
-        top: 0,
-    };
-    let mut i: usize = 0;
+    let mut s = from;
+    let mut i = passed;
     while i < line.len() {
         let a = tables::cell_at(cells, line[i] as usize, s.top * z.width) as usize;
         if a == 0 {
@@ -168,20 +180,22 @@ fn sort(cells: &[u16], z: Shape, s: Spot, places: usize, group: u64) -> Sorting
     Sorting::Into(r)
 }
 
-// Reads the line anew, and goes on for the terminals of todo as long as one reduction serves some of them.
+// Reads the line from a spot, and goes on for the terminals of todo as long as one reduction serves some of them.
 fn pass(
     table: &[u16],
     cells: &[u16],
     line: &[u8],
     second: &mut [u16],
     z: Shape,
+    from: Spot,
+    passed: usize,
     step_limit: u64,
     todo: u64,
 ) -> Passed
-    requires { ⌜ (Readable (now table) (now cells) z) × (inputOk (now table) (now line) ≡ true) × (0 < length (now second)) × ((m : ℕ) → Has todo m → m < terminals (now table)) ⌝ }
+    requires { ⌜ (Readable (now table) (now cells) z) × (inputOk (now table) (now line) ≡ true) × (Reaches (now table) «step_limit» (length (now second)) (now line) (now second) (drop passed (now line)) from) × ((m : ℕ) → Has todo m → m < terminals (now table)) ⌝ }
     ensures { λ r. ⌜ Passes (now (table .entry)) «step_limit» (length (now (second .entry))) (now (line .entry)) todo r ⌝ }
 {
-    let mut s = match arrive(table, cells, line, second, z, step_limit) {
+    let mut s = match arrive(table, cells, line, second, z, from, passed, step_limit) {
         Arrival::Arrived(s) => s,
         Arrival::Wrong => return Passed::Wrong,
         Arrival::Cut => return Passed::Cut,
@@ -208,7 +222,7 @@ fn pass(
     }
 }
 
-// The passes after the first, which has found some terminals and left others undecided.
+// The passes after the first, which has found some terminals and left others undecided: each reads the line anew.
 fn others(
     table: &[u16],
     cells: &[u16],
@@ -225,7 +239,8 @@ fn others(
     let mut todo = undecided;
     let mut found = first;
     while todo != 0 {
-        let n = pass(table, cells, line, second, z, step_limit, todo);
+        let s = begin(second, step_limit);
+        let n = pass(table, cells, line, second, z, s, 0, step_limit, todo);
         match n {
             Passed::Over { found: f, later } => {
                 found = sets::join(found, f);
@@ -242,16 +257,34 @@ fn others(
     Expected::Known(found)
 }
 
-// Which terminals can follow the line, by fresh readings in the second area. The first pass, which is mostly the only
-// one, stands apart: with two callers it is compiled by itself, and not into the loop of the parser, which would slow it.
-pub fn explore(table: &[u16], line: &[u8], second: &mut [u16], step_limit: u64) -> Expected
-    requires { ⌜ (Checked (now table)) × (inputOk (now table) (now line) ≡ true) × (0 < length (now second)) ⌝ }
+// Which terminals can follow the line, by fresh readings in the second area. The first goes on from a spot that the
+// caller has come to with some terminals of the line passed; it is mostly the only one, and stands apart: with two
+// callers a pass is compiled by itself, and not into the loop of the parser, which would slow it.
+pub fn explore(
+    table: &[u16],
+    line: &[u8],
+    second: &mut [u16],
+    from: Spot,
+    passed: usize,
+    step_limit: u64,
+) -> Expected
+    requires { ⌜ (Checked (now table)) × (inputOk (now table) (now line) ≡ true) × (0 < length (now second)) × (passed ≤ length (now line)) × (Reaches (now table) «step_limit» (length (now second)) (now line) (now second) (drop passed (now line)) from) ⌝ }
     ensures { λ r. ⌜ Explores (now (table .entry)) «step_limit» (length (now (second .entry))) (now (line .entry)) r ⌝ }
 {
     let z = tables::shape_of(table);
     let cells = tables::cells_of(table, z);
     let todo = all(z.terminals);
-    let n = pass(table, cells, line, second, z, step_limit, todo);
+    let n = pass(
+        table,
+        cells,
+        line,
+        second,
+        z,
+        from,
+        passed,
+        step_limit,
+        todo,
+    );
     match n {
         Passed::Over { found, later } => {
             others(table, cells, line, second, z, step_limit, found, later)

@@ -135,7 +135,7 @@ module _ {t l st li : List ℕ} (pa : Passed t l (length st)) {n most : ℕ} {m 
   list-long = rw (h .listing) (covered-length (length out) out li (omega arith) (h .room))
 
   -- n states popped leave p ∷ ps
-  left-under : (n p : ℕ) (ps : List ℕ) → drop n (q ∷ qs) ≡ p ∷ ps → (n < m .depth) × (m .depth - n ≡ length (p ∷ ps)) × (take (m .depth - n) (m .stack) ≡ reverse (p ∷ ps))
+  pub left-under : (n p : ℕ) (ps : List ℕ) → drop n (q ∷ qs) ≡ p ∷ ps → (n < m .depth) × (m .depth - n ≡ length (p ∷ ps)) × (take (m .depth - n) (m .stack) ≡ reverse (p ∷ ps))
   left-under n p ps e =
       let d = h .deep in
       let e₁ : length (p ∷ ps) ≡ length (q ∷ qs) - n = ap length (sym e) ∙ length-drop n (q ∷ qs) in

@@ -8,6 +8,7 @@ pub mod RunLaws
 pub mod Offers
 pub mod Areas
 pub mod Explorations
+pub mod Checkpoints
 pub mod ReadsLaws
 pub mod ReportLaws
 pub mod Spent

@@ -3,16 +3,23 @@ use Prim.Native.Nat.{ℕ, _+_, _^_, _<_, _≤_}
 use mathlib.Core.Path.{_≡_}
 use mathlib.Core.Logic.{_≢_}
 use mathlib.Core.List.{List, [], _∷_, _++_}
+use lib.ListN.{length, take, drop}
 use lib.Count.{ones}
 use Rattle.machine.specs.Report.{numbersOf}
-use Rattle.machine.specs.ComputedRun.{Machine, Outcome, endedAt}
+use Rattle.machine.specs.ComputedRun.{Machine, Outcome, actionOf, run, endedAt}
+use Rattle.tables.specs.declared.Shape.{Shape}
+use Rattle.steps.specs.State.{machineOf, Held}
 use Rattle.steps.specs.declared.State.{State}
+use Rattle.exploration.specs.Reaches.{Reaches}
 use Rattle.exploration.specs.declared.Expected.{Expected}
 use Rattle.exploration.specs.declared.Expected.the-variants.{Known, Cut}
 use Rattle.parser.specs.declared.Counts.{Counts}
 use Rattle.parser.specs.declared.Answer.{Answer}
 use Rattle.parser.specs.declared.Ending.{Ending}
 use Rattle.parser.specs.declared.Ending.the-variants.{Final, Wrong}
+use Rattle.parser.specs.declared.Progress.{Progress}
+use Rattle.parser.specs.declared.Progress.the-variants.{Ended, Paused}
+use Rattle.parser.specs.declared.Mark.{Mark}
 use Rattle.parser.specs.Answer.{countsOf, numbers}
 
 -- what an end at a state carries
@@ -46,6 +53,21 @@ pub record Ends (o : Outcome) (e : Ending) (st li : List ℕ) : Type 0 where
   pub says : Says o e
   pub stack : st ≡ o .final .stack
   pub list : li ≡ o .final .list
+
+-- what comes of the steps left at a state s, from the machine m₀: the end of every run with that many steps and more, or the state that every such run comes to,
+-- with no step left and a step to be made
+pub data Advances (t l cs : List ℕ) (z : Shape) (s : State) (m₀ : Machine) (st li : List ℕ) : Progress → Type 0 where
+  ended : {e : Ending} → ((j : ℕ) → Ends (run t l (s .left + j) m₀) e st li) → Advances t l cs z s m₀ st li (Ended e)
+  paused : {s′ : State} → ((j : ℕ) → run t l (s .left + j) m₀ ≡ run t l j (machineOf st li s′)) → Held t cs st li z s′ → actionOf t l (machineOf st li s′) ≢ 0
+      → s′ .position + s′ .listed ≡ s .position + s .listed + s .left → Advances t l cs z s m₀ st li (Paused s′)
+
+-- a fresh reading behind a line that is longer than what was passed at the mark can go on from there; the second area is se
+abbrev pub MarkedIn : List ℕ → List ℕ → ℕ → List ℕ → Mark → Type 0
+MarkedIn t line limit se m = m .position < length line → Reaches t limit (length se) line se (drop (m .position) line) (m .spot)
+
+-- so it is for each beginning of the input
+abbrev pub Marked : List ℕ → List ℕ → ℕ → List ℕ → Mark → Type 0
+Marked t l limit se m = (place : ℕ) → place ≤ length l → MarkedIn t (take place l) limit se m
 
 -- what is told of an exploration at a position
 abbrev pub tells : Expected → ℕ → Counts → List ℕ

@@ -5,18 +5,21 @@ use steps::State;
 use steps::Stop;
 use table_checks::Refusal;
 use table_checks::Verdict;
+use tables::Shape;
+use unlisted_steps::Spot;
 ghost use mathlib.Core.Path.{_≡_};
 ghost use mathlib.Core.Bool.{true};
 ghost use mathlib.Core.List.{_∷_};
 ghost use Prim.Native.Nat.{_+_, _^_, _<_, _≤_};
-ghost use lib.ListN.{length, replicate};
+ghost use lib.ListN.{length, take, replicate};
 ghost use Rattle.machine.specs.Checks.{inputOk, refusalOf};
 ghost use Rattle.machine.specs.Report.{numbersOf};
 ghost use Rattle.machine.specs.ComputedRun.{Machine, Outcome, run as runs, start, wrongAt, reportOf, reading};
 ghost use Rattle.machine.proofs.Checked.{Checked, Passed};
-ghost use Rattle.steps.specs.State.{stopNumber};
+ghost use Rattle.exploration.specs.Expected.{Explores};
+ghost use Rattle.steps.specs.State.{machineOf, stopNumber, Held};
 ghost use Rattle.parser.specs.Answer.{countsOf, numbers, ReadsAs};
-ghost use Rattle.parser.specs.Phases.{reached, acceptedAt, countBits, Countable, At, Says, Ends, Explorable, tells};
+ghost use Rattle.parser.specs.Phases.{reached, acceptedAt, countBits, Countable, At, Says, Ends, Advances, MarkedIn, Marked, Explorable, tells};
 ghost use Rattle.parser.specs.Terminals.{Lists};
 
 // The steps made, the stack places in use and the productions listed.
@@ -55,6 +58,23 @@ enum Ending {
     Wrong(usize, Counts),
 }
 
+// What comes of some steps: an end, or none, with no step left.
+enum Progress {
+    Ended(Ending),
+    Paused(State),
+}
+
+// Where a run has been: a fresh reading can go on from there. The second area holds the stack.
+struct Mark {
+    spot: Spot,
+    position: usize,
+}
+
+struct Course {
+    end: Ending,
+    mark: Mark,
+}
+
 fn count(s: State) -> Counts
     requires { ⌜ Countable countBits s ⌝ }
     ensures { λ r. ⌜ countsOf r ≡ reached s ⌝ }
@@ -90,10 +110,80 @@ fn accepted(s: State) -> Answer
     })
 }
 
-// The run over an input by a table, both checked.
-fn run(table: &[u16], input: &[u8], stack: &mut [u16], list: &mut [u16], step_limit: u64) -> Ending
-    requires { ⌜ (Passed (now table) (now input) (length (now stack))) × (length (now input) ≤ 65535) ⌝ }
-    ensures { λ r. ⌜ Ends (runs (now (table .entry)) (now (input .entry)) «step_limit» (start (now (stack .entry)) (now (list .entry)))) r (now (stack .exit)) (now (list .exit)) ⌝ }
+// The steps from a state, as many as it has left.
+fn advance(
+    table: &[u16],
+    cells: &[u16],
+    input: &[u8],
+    stack: &mut [u16],
+    list: &mut [u16],
+    z: Shape,
+    from: State,
+) -> Progress
+    requires { ⌜ (Passed (now table) (now input) (length (now stack))) × (length (now input) ≤ 65535) × (Held (now table) (now cells) (now stack) (now list) z from) × (from .position + from .listed + from .left < 2 ^ countBits) ⌝ }
+    ensures { λ r. ⌜ Advances (now (table .entry)) (now (input .entry)) (now (cells .entry)) z from (machineOf (now (stack .entry)) (now (list .entry)) from) (now (stack .exit)) (now (list .exit)) r ⌝ }
+{
+    let mut s = from;
+    loop {
+        let a = steps::action(cells, input, z, s);
+        if a == 0 {
+            return Progress::Ended(Ending::Wrong(s.position, count(s)));
+        }
+        if s.left == 0 {
+            return Progress::Paused(s);
+        }
+        let n = steps::step(table, cells, stack, list, z, s, a);
+        match n {
+            Next::Ended(e) => {
+                return Progress::Ended(Ending::Final(stopped(e, s)));
+            }
+            Next::Moved(t) => {
+                s = t;
+            }
+            Next::Accepted => {
+                return Progress::Ended(Ending::Final(accepted(s)));
+            }
+        }
+    }
+}
+
+// How many of the steps left are made before the next mark: so many that a copy of the stack costs little beside them.
+fn portion(left: u64, depth: usize) -> u64
+    ensures { λ r. ⌜ (r ≤ left) × (0 < left → 0 < r) ⌝ }
+{
+    let d = depth as u64;
+    if left < 512 {
+        return left;
+    }
+    if d < 512 {
+        return 512;
+    }
+    if left < d { left } else { d }
+}
+
+// The first n places of the stack, copied.
+fn copy(stack: &[u16], second: &mut [u16], n: usize)
+    requires { ⌜ (n ≤ length (now stack)) × (n ≤ length (now second)) ⌝ }
+    ensures { λ _. ⌜ take n (now (second .exit)) ≡ take n (now (stack .entry)) ⌝ }
+{
+    let mut i: usize = 0;
+    while i < n {
+        second[i] = stack[i];
+        i += 1;
+    }
+}
+
+// The run over an input by a table, both checked. Now and then it leaves a mark.
+fn run(
+    table: &[u16],
+    input: &[u8],
+    stack: &mut [u16],
+    list: &mut [u16],
+    second: &mut [u16],
+    step_limit: u64,
+) -> Course
+    requires { ⌜ (Passed (now table) (now input) (length (now stack))) × (length (now input) ≤ 65535) × (length (now stack) ≤ length (now second)) ⌝ }
+    ensures { λ r. ⌜ (Ends (runs (now (table .entry)) (now (input .entry)) «step_limit» (start (now (stack .entry)) (now (list .entry)))) (r .end) (now (stack .exit)) (now (list .exit))) × (Marked (now (table .entry)) (now (input .entry)) «step_limit» (now (second .exit)) (r .mark)) ⌝ }
 {
     let z = tables::shape_of(table);
     let cells = tables::cells_of(table, z);
@@ -102,27 +192,41 @@ fn run(table: &[u16], input: &[u8], stack: &mut [u16], list: &mut [u16], step_li
         depth: 1,
         listed: 0,
         position: 0,
-        left: step_limit,
+        left: 0,
         top: 0,
     };
+    let mut mark = Mark {
+        spot: Spot {
+            depth: 1,
+            left: step_limit,
+            top: 0,
+        },
+        position: 65535,
+    };
+    let mut left = step_limit;
     loop {
-        let a = steps::action(cells, input, z, s);
-        if a == 0 {
-            return Ending::Wrong(s.position, count(s));
-        }
-        if s.left == 0 {
-            return Ending::Final(Answer::StepLimit(count(s)));
-        }
-        let n = steps::step(table, cells, stack, list, z, s, a);
+        s.left = portion(left, s.depth);
+        left -= s.left;
+        let n = advance(table, cells, input, stack, list, z, s);
         match n {
-            Next::Ended(e) => {
-                return Ending::Final(stopped(e, s));
+            Progress::Ended(end) => {
+                return Course { end, mark };
             }
-            Next::Moved(t) => {
+            Progress::Paused(t) => {
+                if left == 0 {
+                    let end = Ending::Final(Answer::StepLimit(count(t)));
+                    return Course { end, mark };
+                }
+                copy(stack, second, t.depth);
+                mark = Mark {
+                    spot: Spot {
+                        depth: t.depth,
+                        left,
+                        top: t.top,
+                    },
+                    position: t.position,
+                };
                 s = t;
-            }
-            Next::Accepted => {
-                return Ending::Final(accepted(s));
             }
         }
     }
@@ -143,6 +247,18 @@ fn told(e: Expected, position: usize, counts: Counts) -> Answer
     }
 }
 
+// The exploration behind a line, from the mark where that lies before the line's end, else from the beginning.
+fn explore_from(table: &[u16], line: &[u8], second: &mut [u16], step_limit: u64, mark: Mark) -> Expected
+    requires { ⌜ (Checked (now table)) × (inputOk (now table) (now line) ≡ true) × (0 < length (now second)) × (MarkedIn (now table) (now line) «step_limit» (now second) mark) ⌝ }
+    ensures { λ r. ⌜ Explores (now (table .entry)) «step_limit» (length (now (second .entry))) (now (line .entry)) r ⌝ }
+{
+    if mark.position < line.len() {
+        return exploration::explore(table, line, second, mark.spot, mark.position, step_limit);
+    }
+    let s = exploration::begin(second, step_limit);
+    exploration::explore(table, line, second, s, 0, step_limit)
+}
+
 // The answer for a wrong terminal at a position: the terminals that can follow the input before it.
 fn explored(
     table: &[u16],
@@ -151,23 +267,26 @@ fn explored(
     step_limit: u64,
     position: usize,
     counts: Counts,
+    mark: Mark,
 ) -> Answer
-    requires { ⌜ (Checked (now table)) × (inputOk (now table) (now input) ≡ true) × (0 < length (now second)) × (position ≤ length (now input)) ⌝ }
+    requires { ⌜ (Checked (now table)) × (inputOk (now table) (now input) ≡ true) × (0 < length (now second)) × (position ≤ length (now input)) × (Marked (now table) (now input) «step_limit» (now second) mark) ⌝ }
     ensures { λ r. ⌜ ((m : Machine) → At m position counts → numbers r ≡ numbersOf (wrongAt (now (table .entry)) (now (input .entry)) «step_limit» (length (now (second .entry))) m)) ⌝ }
 {
-    let e = exploration::explore(table, &input[..position], second, step_limit);
+    let e = explore_from(table, &input[..position], second, step_limit, mark);
     told(e, position, counts)
 }
 
 // The answer of a run that has ended.
-fn answered(table: &[u16], input: &[u8], second: &mut [u16], step_limit: u64, e: Ending) -> Answer
-    requires { ⌜ (Checked (now table)) × (inputOk (now table) (now input) ≡ true) × (0 < length (now second)) × (Explorable (length (now input)) e) ⌝ }
-    ensures { λ r. ⌜ ((o : Outcome) → Says o e → numbers r ≡ numbersOf (reportOf (now (table .entry)) (now (input .entry)) «step_limit» (length (now (second .entry))) o)) ⌝ }
+fn answered(table: &[u16], input: &[u8], second: &mut [u16], step_limit: u64, r: Course) -> Answer
+    requires { ⌜ (Checked (now table)) × (inputOk (now table) (now input) ≡ true) × (0 < length (now second)) × (Explorable (length (now input)) (r .end)) × (Marked (now table) (now input) «step_limit» (now second) (r .mark)) ⌝ }
+    ensures { λ a. ⌜ ((o : Outcome) → Says o (r .end) → numbers a ≡ numbersOf (reportOf (now (table .entry)) (now (input .entry)) «step_limit» (length (now (second .entry))) o)) ⌝ }
 {
-    match e {
+    let mark = r.mark;
+    let end = r.end;
+    match end {
         Ending::Final(a) => a,
         Ending::Wrong(position, counts) => {
-            explored(table, input, second, step_limit, position, counts)
+            explored(table, input, second, step_limit, position, counts, mark)
         }
     }
 }
@@ -183,11 +302,11 @@ fn clear(second: &mut [u16])
 }
 
 // The same, and the second area is cleared.
-fn finish(table: &[u16], input: &[u8], second: &mut [u16], step_limit: u64, e: Ending) -> Answer
-    requires { ⌜ (Checked (now table)) × (inputOk (now table) (now input) ≡ true) × (0 < length (now second)) × (Explorable (length (now input)) e) ⌝ }
-    ensures { λ r. ⌜ ((o : Outcome) → Says o e → numbers r ≡ numbersOf (reportOf (now (table .entry)) (now (input .entry)) «step_limit» (length (now (second .entry))) o)) × (now (second .exit) ≡ replicate (length (now (second .entry))) 0) ⌝ }
+fn finish(table: &[u16], input: &[u8], second: &mut [u16], step_limit: u64, r: Course) -> Answer
+    requires { ⌜ (Checked (now table)) × (inputOk (now table) (now input) ≡ true) × (0 < length (now second)) × (Explorable (length (now input)) (r .end)) × (Marked (now table) (now input) «step_limit» (now second) (r .mark)) ⌝ }
+    ensures { λ a. ⌜ ((o : Outcome) → Says o (r .end) → numbers a ≡ numbersOf (reportOf (now (table .entry)) (now (input .entry)) «step_limit» (length (now (second .entry))) o)) × (now (second .exit) ≡ replicate (length (now (second .entry))) 0) ⌝ }
 {
-    let a = answered(table, input, second, step_limit, e);
+    let a = answered(table, input, second, step_limit, r);
     clear(second);
     a
 }
@@ -204,8 +323,8 @@ fn read(
     requires { ⌜ refusalOf (now table) (now input) (length (now stack)) (length (now second)) ≡ 0 ⌝ }
     ensures { λ r. ⌜ ReadsAs (reading (now (table .entry)) (now (input .entry)) (now (stack .entry)) (now (list .entry)) (now (second .entry)) «step_limit») r (now (stack .exit)) (now (list .exit)) (now (second .exit)) ⌝ }
 {
-    let e = run(table, input, stack, list, step_limit);
-    finish(table, input, second, step_limit, e)
+    let r = run(table, input, stack, list, second, step_limit);
+    finish(table, input, second, step_limit, r)
 }
 
 // Reads an input by a table: every input is answered, and a refusal changes nothing.

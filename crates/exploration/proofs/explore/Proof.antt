@@ -15,7 +15,7 @@ pass-requires c κs =
     let e = b3 .shape-of .ensures .terminals-are in (
       record { checked = p .0; shaped = b3 .shape-of .ensures; rows = c .before .before .cells-of .ensures },
       p .1,
-      p .2,
+      p .4,
       λ m h. rw e at (c .before .all .ensures m .0 h),
     )
 

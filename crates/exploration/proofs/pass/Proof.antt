@@ -8,11 +8,11 @@ use Rattle.exploration.proofs.pass.Statement.{statement}
 use Rattle.exploration.proofs.pass.Tie as tie
 
 abbrev Inv-loop : tie.InvT-loop
-Inv-loop table cells line second₀ z step-limit todo s₀ group₀ found₀ later₀ second s group found later =
+Inv-loop table cells line second₀ z passed step-limit todo s₀ group₀ found₀ later₀ second s group found later =
     Passing table step-limit (length second₀) line todo second s group found later
 
 abbrev μ-loop : tie.MeasureT-loop
-μ-loop table cells line second₀ z step-limit todo s₀ group₀ found₀ later₀ second s group found later = s .left
+μ-loop table cells line second₀ z passed step-limit todo s₀ group₀ found₀ later₀ second s group found later = s .left
 
 arrive-requires : tie.Need-arrive-requires Inv-loop μ-loop
 arrive-requires c κs = let b = c .before .before .before .before .before in (b .pre .0, b .pre .1, b .pre .2)
