@@ -7,9 +7,13 @@
  * the place were read as, those under which the states on the stack were entered, and the terminals that can follow there.
  *
  * STEP_LIMIT: up to 18446744073709551615; 1000000 where none is given. STACK, LIST and SECOND, in places: up to 16777216
- * each; 65536, 1000000 and as many as STACK where none is given. So no line makes more than 16842752 steps here: each but
- * the acceptance passes a terminal or takes a place of LIST. The fresh readings that find what can follow have no list:
- * only STEP_LIMIT bounds the time that they take.
+ * each; 65536, 1000000 and STACK + 1 where none is given. Where no production is empty, 65536 and 65537 places of stack and
+ * second area are enough for every line. With no stack (27) and with SECOND shorter than STACK (45) no line is read: a
+ * message, and status 2, as for a bad table.
+ *
+ * So no line makes more than 16842752 steps here: each but the acceptance passes a terminal or takes a place of LIST. The
+ * fresh readings that find what can follow have no list: only STEP_LIMIT bounds the time that they take. Where one of them
+ * stops, the answer has `expected unknown (46)`: allow more steps or a longer second area.
  */
 #include <ctype.h>
 #include <errno.h>
@@ -164,10 +168,10 @@ static void arguments(int argc, char **argv, uint64_t limits[LIMITS])
             fail("%s: not a number up to %llu", argv[i], (unsigned long long)most[i - 2]);
     }
     if (argc < 2 + LIMITS)
-        limits[SECOND] = limits[STACK];
+        limits[SECOND] = limits[STACK] + 1;
 }
 
-/* Loads the table and makes the areas; ends the program where the table is refused. */
+/* Loads the table and makes the areas; ends the program where one of them is refused. */
 static void open_page(struct page *p, const char *path)
 {
     uint64_t out[SIDUMZA_OUT];
@@ -176,8 +180,10 @@ static void open_page(struct page *p, const char *path)
     p->list = room(NULL, p->limits[LIST] * sizeof *p->list);
     p->second = room(NULL, p->limits[SECOND] * sizeof *p->second);
     parse(p, NULL, 0, 0, out);
-    if ((out[0] >= SIDUMZA_TABLE_SHORT && out[0] <= SIDUMZA_BAD_CELL) || out[0] == SIDUMZA_BAD_ENTERED)
-        fail("%s: refused %d: %s", path, (int)out[0], refusal(out[0]));
+    uint64_t n = out[SIDUMZA_NUMBER];
+    if (out[SIDUMZA_DEPTH] == 0)
+        fail("%s: refused %d: %s", n == SIDUMZA_NO_STACK ? "STACK" : n == SIDUMZA_SECOND_SHORT ? "SECOND" : path, (int)n,
+             refusal(n));
 }
 
 int main(int argc, char **argv)

@@ -7,9 +7,13 @@
 // the place were read as, those under which the states on the stack were entered, and the terminals that can follow there.
 //
 // STEP_LIMIT: up to 18446744073709551615; 1000000 where none is given. STACK, LIST and SECOND, in places: up to 16777216
-// each; 65536, 1000000 and as many as STACK where none is given. So no line makes more than 16842752 steps here: each but
-// the acceptance passes a terminal or takes a place of LIST. The fresh readings that find what can follow have no list:
-// only STEP_LIMIT bounds the time that they take.
+// each; 65536, 1000000 and STACK + 1 where none is given. Where no production is empty, 65536 and 65537 places of stack and
+// second area are enough for every line. With no stack (27) and with SECOND shorter than STACK (45) no line is read: a
+// message, and status 2, as for a bad table.
+//
+// So no line makes more than 16842752 steps here: each but the acceptance passes a terminal or takes a place of LIST. The
+// fresh readings that find what can follow have no list: only STEP_LIMIT bounds the time that they take. Where one of them
+// stops, the answer has `expected unknown (46)`: allow more steps or a longer second area.
 use sidumza::{entered, parse, read_table, terminals, Answer, Counts, Refusal};
 use std::io::{BufRead, Write};
 
@@ -57,7 +61,7 @@ fn limits(args: &[String]) -> [u64; 4] {
         *limit = number(word, max).unwrap_or_else(|| fail(format!("{word}: not a number up to {max}")));
     }
     if args.len() < 2 + most.len() {
-        limits[3] = limits[1];
+        limits[3] = limits[1] + 1;
     }
     limits
 }
@@ -70,9 +74,12 @@ fn main() {
     let table = read_table(&text).unwrap_or_else(|fault| fail(format!("{path}: {fault}")));
     let [mut stack, mut list, mut second] = [1, 2, 3].map(|i| vec![0; limits[i] as usize]);
     if let Answer::Refused { refusal } = parse(&table, &[], &mut stack, &mut list, &mut second, 0) {
-        if refusal != Refusal::NoStack && refusal != Refusal::SecondShort {
-            fail(format!("{path}: {refusal}"));
-        }
+        let what = match refusal {
+            Refusal::NoStack => "STACK",
+            Refusal::SecondShort => "SECOND",
+            _ => path,
+        };
+        fail(format!("{what}: {refusal}"));
     }
     let mut out = std::io::BufWriter::new(std::io::stdout().lock());
     for (k, line) in std::io::stdin().lock().split(b'\n').enumerate() {

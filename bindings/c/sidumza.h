@@ -25,8 +25,9 @@ enum {
     SIDUMZA_OUT             /* the number of places */
 };
 
-/* The answer's number. A place of `out` that an answer does not have is 0: a refusal has the number alone; an end has
- * number, steps, depth and listed; 46 has the position besides; 31 has all seven. */
+/* The answer's number. A place of `out` that an answer does not have is 0: a refusal has the number alone; every end has
+ * number, steps, depth and listed. Besides these 31 has position, expected set and its size; 46 has the position, and 0
+ * for the expected set and its size. */
 enum {
     SIDUMZA_ACCEPTED = 0,
 
@@ -53,6 +54,8 @@ enum {
 };
 
 /* Parses `input` by `table` and writes the answer to `out`.
+ *
+ * Callers of an older call: see "To callers of .." below.
  *
  * table, table_len   the parse table in 16-bit numbers: the sizes Q (states, 1 to 256),
  *                    T (terminals, 1 to 64), N (nonterminals, 1 to 60), P (productions, 1 to 128);
@@ -104,20 +107,33 @@ enum {
  * all but those of column 0 do, 26 where half of them do by chance); then some 3 nanoseconds a step
  * in short inputs (bench/reader/checks.sh and calls.c), 3.5 to 6.5 in long ones (turns.sh), on an AMD EPYC. For an
  * input of 9 terminals and 20 steps by JSON's table the check is six sevenths of the time. Zeroing the second area takes
- * 0.02 microseconds for 1000 places. What can follow (31) takes as long again as the input before the position, and where
- * the terminals that can follow are reduced under in different ways, that long for each way (bench/reader/offers.sh:
- * twice the time of the reading alone in most grammars, nine times in one made for it).
+ * 0.02 microseconds for 1000 places.
+ * What finding what can follow (31, 46) costs: terminals that ask for the same reductions at the position are one way, and
+ * all terminals of a way are tried together. By most grammars there is one way, and the call takes little more than the
+ * reading itself.
+ * - The first way reads again what was read since the last checkpoint. The reader keeps one as it goes, every 512 steps or
+ *   so, or as many as the stack is deep where that is more. Each further way reads the whole input before the position.
+ * - Each way makes its reductions apart, all of them, also those that the input has still open: by right recursion
+ *   (A -> x A | x) as many as there are terminals before the position.
+ * - All these steps take 5 to 14 nanoseconds each (docs/changes/05-true-offers.md, bench/reader/offers.sh). By S -> Ai i,
+ *   Ai -> x Ai | x with 42 such i, so 42 ways, an input of 60000 x takes 28 milliseconds, 212 times its reading.
  *
  * To callers of the call without a second area:
+ * - Choose a step limit that you would wait for: the list's length no longer bounds the time of a call. This goes for all
+ *   who passed UINT64_MAX or trusted the list, also with the maker's tables: by a card whose empty productions double a
+ *   fresh reading may take longer than anyone would wait.
+ * - Lend a second area, behind the list, of input_len + 2 places, or as many as the stack has where that is more: so many
+ *   are enough where no production is empty (else: "What to lend"). Beside a stack of input_len + 1 places one as long as
+ *   the stack may be too short: then an input that is wrong at its end gets 46, without an expected set.
  * - Compile again, with this header, every file that calls it, and link with the archive that belongs to this header. The
  *   name is the same, so the linker does not notice: an object of the old header hands over its step limit as the second
  *   area, an old archive takes second_len for the place of the answer, and either way the program writes to memory that is
  *   not its own. Declarations by hand, also in other languages, must have the two parameters between list_len and
  *   step_limit.
  * - What changes in the answers is SIDUMZA_EXPECTED and its count, and that 46 may come in place of 31. Stack, list and all
- *   other numbers are the same for every input, and so is every end other than 31.
- * - Code that knows a wrong input by 31 must know it by 46, too, without an expected set. A step limit or a stack that an
- *   input just uses up may be too small for the fresh readings; where 31 came with step limit 0, 46 comes now.
+ *   other numbers are the same for every input, and so is every end other than 31. What changes besides is the time.
+ * - Code that knows a wrong input by 31 must know it by 46, too, without an expected set. A step limit that an input just
+ *   uses up may be too small for the fresh readings; where 31 came with step limit 0, 46 comes now.
  *
  * To callers of the call whose step_limit was a uint32_t:
  * - Compile again, with this header, every file that calls it, and link with the archive that belongs to this header.

@@ -99,16 +99,25 @@ mod archive {
 ///
 /// After an end the used places of `stack` and `list` hold states and productions; popped places
 /// of `stack` are 0, and places never used are unchanged. `second` is the stack of the fresh readings that find what can
-/// follow; it is at least as long as `stack`, and all zero after every end.
+/// follow: at least as long as `stack`, else the call is refused, and all zero after every end. `input.len() + 2` places
+/// are enough where no production is empty; it is zeroed in every call, so lend no more than the input needs.
 ///
 /// `step_limit` is how many steps may be made, by the reading and by each fresh reading. For the reading
 /// `(input.len() + list.len() + 1) as u64` are always enough; with `u64::MAX` [`Answer::StepLimit`] never comes. It is
-/// what bounds the time of a call: `bindings/c/sidumza.h` says more, and how long `second` should be.
+/// what bounds the time of a call: `bindings/c/sidumza.h` says more, and how long `second` should be where productions
+/// are empty ("What to lend").
 ///
-/// To callers of the function without `second` (version 0.2): lend one as long as `stack`; the expected set is now what
-/// truly can follow, and [`Answer::ExpectedUnknown`] may come in place of [`Answer::NoAction`]. All else is the same. The
-/// archive must be the one that belongs to this crate: the linker does not notice an older one, which writes to memory
-/// that is not its own.
+/// To callers of the function without `second` (version 0.2):
+/// - Choose a step limit that you would wait for: the list's length no longer bounds the time of a call. This goes for all
+///   who passed `u64::MAX` or trusted the list, also with the maker's tables: by a card whose empty productions double a
+///   fresh reading may take longer than anyone would wait.
+/// - Lend `second`, behind `list`, with `input.len() + 2` places, or as many as `stack` has where that is more: so many are
+///   enough where no production is empty. Beside a stack of `input.len() + 1` places one as long as `stack` may be too
+///   short: then an input that is wrong at its end gets [`Answer::ExpectedUnknown`].
+/// - The expected set is now what truly can follow, and [`Answer::ExpectedUnknown`] may come in place of
+///   [`Answer::NoAction`]. Every other answer, the counts, `stack` and `list` are the same; the time of a call is not.
+/// - The archive must be the one that belongs to this crate (0.3.0): the linker does not notice an older one, which writes
+///   to memory that is not its own.
 ///
 /// To callers of the function whose `step_limit` was a `u32`: a number of 32 bits is passed as `u64::from(..)` and
 /// means what it meant, with the same answer and counts; whoever means no limit passes `u64::MAX` and not `u32::MAX`;
