@@ -14,10 +14,9 @@ use Rattle.machine.proofs.Checked.{Passed}
 use Rattle.machine.proofs.Checkpoints.{Come, come}
 use Rattle.steps.specs.State.{machineOf, Held}
 use Rattle.steps.specs.declared.State.{State}
-use Rattle.unlisted_steps.specs.declared.Spot.{Spot}
 use Rattle.exploration.specs.Reaches.{Reaches}
 use Rattle.parser.specs.Answer.{countsOf, numbers}
-use Rattle.parser.specs.Phases.{reached, Countable, Ends, Advances, ended, paused, MarkedIn, Marked}
+use Rattle.parser.specs.Phases.{reached, Countable, Ends, Advances, ended, paused, startState, markAt, noMark, Marked}
 use Rattle.parser.specs.declared.Counts.{Counts}
 use Rattle.parser.specs.declared.Answer.the-variants.{StepLimit}
 use Rattle.parser.specs.declared.Ending.{Ending}
@@ -74,19 +73,19 @@ pub pausing : {t l cs : List ℕ} {z : Shape} {s : State} {m₀ : Machine} {st l
 pausing (paused h e n m) = record { goes = h; held = e; asks = n; made = m }
 
 -- at first there is no mark: no input is longer than 65,535
-no-mark : (t l : List ℕ) (a : ℕ) (se : List ℕ) (x : Spot) → length l ≤ 65535 → Marked t l a se (record { spot = x; position = 65535 })
-no-mark t l a se x h place k i = absurd (omega (arith, length-take-le place l k))
+no-mark : (t l : List ℕ) (a : ℕ) (se : List ℕ) → length l ≤ 65535 → Marked t l a se noMark
+no-mark t l a se h place k i = absurd (omega (arith, length-take-le place l k))
 
-pub running-start : {t l cs li se : List ℕ} {z : Shape} (st : List ℕ) (a : ℕ) (x : Spot) → Passed t l (length st) → length l ≤ 65535 → Shaped t z → cs ≡ drop (z .cells) t
-    → Running t l cs a z (set st 0 0) li se (set st 0 0) li se (record { depth = 1; listed = 0; position = 0; left = 0; top = 0 }) (record { spot = x; position = 65535 }) a
-running-start {t} {l} {li = li} {se = se} st a x p h s e = record {
+pub running-start : {t l cs li se : List ℕ} {z : Shape} (st : List ℕ) (a : ℕ) → Passed t l (length st) → length l ≤ 65535 → Shaped t z → cs ≡ drop (z .cells) t
+    → Running t l cs a z (set st 0 0) li se (set st 0 0) li se startState noMark a
+running-start {t} {l} {li = li} {se = se} st a p h s e = record {
   same = λ j. ap (λ (k : ℕ). run t l k (begun (set st 0 0) li)) (omega arith);
   held = held-start st 0 p s e;
   spent = omega arith;
   stacks = refl;
   lists = refl;
   seconds = refl;
-  marked = no-mark t l a se x h;
+  marked = no-mark t l a se h;
 }
 
 module _ {t l cs : List ℕ} {a : ℕ} {z : Shape} {st₀ li₀ se₀ st li se : List ℕ} {s : State} {m : Mark} {left : ℕ} (g : Running t l cs a z st₀ li₀ se₀ st li se s m left)
@@ -147,7 +146,7 @@ module _ {t l cs : List ℕ} {a : ℕ} {z : Shape} {st₀ li₀ se₀ st li se :
           }
 
       pub running-on : length li′ ≡ length li₀
-          → Running t l cs a z st₀ li₀ se₀ st′ li′ se′ s′ (record { spot = record { depth = s′ .depth; left = left - b; top = s′ .top }; position = s′ .position }) (left - b)
+          → Running t l cs a z st₀ li₀ se₀ st′ li′ se′ s′ (markAt s′ (left - b)) (left - b)
       running-on el = record {
         same = on;
         held = w .held;

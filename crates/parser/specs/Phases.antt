@@ -61,6 +61,17 @@ pub data Advances (t l cs : List ℕ) (z : Shape) (s : State) (m₀ : Machine) (
   paused : {s′ : State} → ((j : ℕ) → run t l (s .left + j) m₀ ≡ run t l j (machineOf st li s′)) → Held t cs st li z s′ → actionOf t l (machineOf st li s′) ≢ 0
       → s′ .position + s′ .listed ≡ s .position + s .listed + s .left → Advances t l cs z s m₀ st li (Paused s′)
 
+-- state 0 alone, before the first step
+abbrev pub startState : State
+startState = record { depth = 1; listed = 0; position = 0; left = 0; top = 0 }
+
+-- the mark at a state with so many steps left, and none
+abbrev pub markAt : State → ℕ → Mark
+markAt s left = record { spot = record { depth = s .depth; left = left; top = s .top }; position = s .position }
+
+abbrev pub noMark : Mark
+noMark = record { spot = record { depth = 1; left = 0; top = 0 }; position = 65535 }
+
 -- a fresh reading behind a line that is longer than what was passed at the mark can go on from there; the second area is se
 abbrev pub MarkedIn : List ℕ → List ℕ → ℕ → List ℕ → Mark → Type 0
 MarkedIn t line limit se m = m .position < length line → Reaches t limit (length se) line se (drop (m .position) line) (m .spot)

@@ -19,7 +19,7 @@ ghost use Rattle.machine.proofs.Checked.{Checked, Passed};
 ghost use Rattle.exploration.specs.Expected.{Explores};
 ghost use Rattle.steps.specs.State.{machineOf, stopNumber, Held};
 ghost use Rattle.parser.specs.Answer.{countsOf, numbers, ReadsAs};
-ghost use Rattle.parser.specs.Phases.{reached, acceptedAt, countBits, Countable, At, Says, Ends, Advances, MarkedIn, Marked, Explorable, tells};
+ghost use Rattle.parser.specs.Phases.{reached, acceptedAt, countBits, Countable, At, Says, Ends, Advances, startState, markAt, noMark, MarkedIn, Marked, Explorable, tells};
 ghost use Rattle.parser.specs.Terminals.{Lists};
 
 // The steps made, the stack places in use and the productions listed.
@@ -173,6 +173,47 @@ fn copy(stack: &[u16], second: &mut [u16], n: usize)
     }
 }
 
+// State 0 alone, before the first step.
+fn at_start() -> State
+    ensures { λ r. ⌜ r ≡ startState ⌝ }
+{
+    State {
+        depth: 1,
+        listed: 0,
+        position: 0,
+        left: 0,
+        top: 0,
+    }
+}
+
+// The mark at a state, with so many steps left.
+fn mark_at(s: State, left: u64) -> Mark
+    ensures { λ r. ⌜ r ≡ markAt s left ⌝ }
+{
+    Mark {
+        spot: Spot {
+            depth: s.depth,
+            left,
+            top: s.top,
+        },
+        position: s.position,
+    }
+}
+
+// No mark: no line is longer than this position.
+fn no_mark() -> Mark
+    ensures { λ r. ⌜ r ≡ noMark ⌝ }
+{
+    Mark {
+        spot: Spot {
+            depth: 1,
+            left: 0,
+            top: 0,
+        },
+        position: 65535,
+    }
+}
+
 // The run over an input by a table, both checked. Now and then it leaves a mark.
 fn run(
     table: &[u16],
@@ -188,21 +229,8 @@ fn run(
     let z = tables::shape_of(table);
     let cells = tables::cells_of(table, z);
     stack[0] = 0;
-    let mut s = State {
-        depth: 1,
-        listed: 0,
-        position: 0,
-        left: 0,
-        top: 0,
-    };
-    let mut mark = Mark {
-        spot: Spot {
-            depth: 1,
-            left: step_limit,
-            top: 0,
-        },
-        position: 65535,
-    };
+    let mut s = at_start();
+    let mut mark = no_mark();
     let mut left = step_limit;
     loop {
         s.left = portion(left, s.depth);
@@ -218,14 +246,7 @@ fn run(
                     return Course { end, mark };
                 }
                 copy(stack, second, t.depth);
-                mark = Mark {
-                    spot: Spot {
-                        depth: t.depth,
-                        left,
-                        top: t.top,
-                    },
-                    position: t.position,
-                };
+                mark = mark_at(t, left);
                 s = t;
             }
         }
@@ -248,7 +269,13 @@ fn told(e: Expected, position: usize, counts: Counts) -> Answer
 }
 
 // The exploration behind a line, from the mark where that lies before the line's end, else from the beginning.
-fn explore_from(table: &[u16], line: &[u8], second: &mut [u16], step_limit: u64, mark: Mark) -> Expected
+fn explore_from(
+    table: &[u16],
+    line: &[u8],
+    second: &mut [u16],
+    step_limit: u64,
+    mark: Mark,
+) -> Expected
     requires { ⌜ (Checked (now table)) × (inputOk (now table) (now line) ≡ true) × (0 < length (now second)) × (MarkedIn (now table) (now line) «step_limit» (now second) mark) ⌝ }
     ensures { λ r. ⌜ Explores (now (table .entry)) «step_limit» (length (now (second .entry))) (now (line .entry)) r ⌝ }
 {

@@ -28,16 +28,18 @@ slice-write-stack c = c .before .before .before .before .before .before .before 
 
 loop-holds : tie.Need-loop-holds Inv-loop μ-loop
 loop-holds c =
-    let b7 = c .before .before .before .before .before .before .before in
-    running-start (now (b7 .args .stack)) _ _ (b7 .pre .0) (b7 .pre .1) (c .before .shape-of .ensures) (c .cells-of .ensures)
+    let b3 = c .before .before .before in
+    let b9 = b3 .before .before .before .before .before .before in
+    rw (c .no-mark .ensures, c .before .at-start .ensures) (running-start (now (b9 .args .stack)) _ (b9 .pre .0) (b9 .pre .1) (b3 .shape-of .ensures) (c .before .before .cells-of .ensures))
 
 advance-requires : tie.Need-advance-requires Inv-loop μ-loop
 advance-requires c κs =
     let b4 = c .before .before .before .before in
-    let b12 = b4 .before .before .before .before .before .before .before .before in
+    let b9 = b4 .before .before .before .before .before in
+    let b14 = b9 .before .before .before .before .before in
     let g = b4 .loop .inv in
-    let e = g .stacks ∙ length-set (now (b12 .args .stack)) 0 0 in
-    (rw e (b12 .pre .0), b12 .pre .1, held-left _ (g .held), omega (arith, g .spent, c .before .before .before .portion .ensures .0, b12 .fits .step-limit .fits))
+    let e = g .stacks ∙ length-set (now (b14 .args .stack)) 0 0 in
+    (rw e (b14 .pre .0), b14 .pre .1, held-left _ (g .held), omega (arith, g .spent, c .before .before .before .portion .ensures .0, b14 .fits .step-limit .fits))
 
 same-length : tie.Need-same-length Inv-loop μ-loop
 same-length c =
@@ -62,8 +64,9 @@ count-requires c κs =
     let b8 = c .before .before .before .before .before .before .before .before in
     let b12 = b8 .before .before .before .before in
     let b13 = b12 .before in
+    let b18 = b13 .before .before .before .before .before in
     let p = pausing (rw (c .before .before .n2 .given .1) at (b8 .advance .ensures)) in
-    countable-so (b13 .loop .inv) _ (b12 .portion .ensures .0) _ _ _ p countBits (b13 .before .before .before .before .before .before .before .before .fits .step-limit .fits)
+    countable-so (b13 .loop .inv) _ (b12 .portion .ensures .0) _ _ _ p countBits (b18 .before .before .before .before .before .fits .step-limit .fits)
 
 same-length-4 : tie.Need-same-length-4 Inv-loop μ-loop
 same-length-4 c =
@@ -90,30 +93,33 @@ copy-requires c κs =
     let b10 = c .before .before .before .before .before .before .before .before .before .before in
     let b15 = b10 .before .before .before .before .before in
     let p = pausing (rw (c .before .before .before .before .n2 .given .1) at (b10 .advance .ensures)) in
-    let q = b15 .before .before .before .before .before .before .before .before in
+    let b20 = b15 .before .before .before .before .before in
+    let q = b20 .before .before .before .before .before in
     let e = b10 .advance .kept .1 .1 .1 .0 ∙ b15 .loop .inv .stacks ∙ length-set (now (q .args .stack)) 0 0 in
     (p .held .within, omega (arith, p .held .within, e, q .pre .2, b15 .loop .inv .seconds))
 
 loop-less : tie.Need-loop-less Inv-loop μ-loop
 loop-less c =
-    let b5 = c .before .before .before .before .before in
-    let b17 = b5 .before .before .before .before .before .before .before .before .before .before .before .before in
-    let f = b17 .portion .ensures in
-    less-left (f .0) (f .1) (b5 .if1 .left)
+    let b6 = c .before .before .before .before .before .before in
+    let b14 = b6 .before .before .before .before .before .before .before .before in
+    let f = b14 .before .before .before .before .portion .ensures in
+    less-left (f .0) (f .1) (b6 .if1 .left)
 
 loop-again : tie.Need-loop-again Inv-loop μ-loop
 unfolding start
 loop-again c =
-    let b5 = c .before .before .before .before .before in
-    let b13 = b5 .before .before .before .before .before .before .before .before in
-    let b17 = b13 .before .before .before .before in
-    let b18 = b17 .before in
-    let q = b18 .before .before .before .before .before .before .before .before in
-    let g = b18 .loop .inv in
-    let p = pausing (rw (b5 .before .before .n2 .given .1) at (b13 .advance .ensures)) in
-    let k = c .before .before .copy in
-    running-on g _ (b17 .portion .ensures .0) _ _ _ p (now (q .args .stack)) refl (q .pre .0) (length-set (now (q .args .stack)) 0 0) (q .pre .2)
-    (b13 .advance .kept .1 .1 .1 .0 ∙ g .stacks) (k .kept .1 .0 ∙ g .seconds) (k .ensures) (b13 .advance .kept .1 .1 .1 .1 .0 ∙ g .lists)
+    let b6 = c .before .before .before .before .before .before in
+    let b14 = b6 .before .before .before .before .before .before .before .before in
+    let b18 = b14 .before .before .before .before in
+    let b19 = b18 .before in
+    let b24 = b19 .before .before .before .before .before in
+    let q = b24 .before .before .before .before .before in
+    let g = b19 .loop .inv in
+    let p = pausing (rw (b6 .before .before .n2 .given .1) at (b14 .advance .ensures)) in
+    let k = c .before .before .before .copy in
+    rw (c .mark-at .ensures)
+    (running-on g _ (b18 .portion .ensures .0) _ _ _ p (now (q .args .stack)) refl (q .pre .0) (length-set (now (q .args .stack)) 0 0) (q .pre .2)
+    (b14 .advance .kept .1 .1 .1 .0 ∙ g .stacks) (k .kept .1 .0 ∙ g .seconds) (k .ensures) (b14 .advance .kept .1 .1 .1 .1 .0 ∙ g .lists))
 
 pub run-spec : {M : Type 1} → statement M
 run-spec =
@@ -124,6 +130,8 @@ run-spec =
     shape-of-requires
     cells-of-requires
     slice-write-stack
+    (λ c κs. search needs)
+    (λ c κs. search needs)
     loop-holds
     (λ c κs. search needs)
     (λ c. c .before .portion .ensures .0)
@@ -140,5 +148,6 @@ run-spec =
     (λ c. (let b9 = c .before .before .before .before .before .before .before .before .before in b9 .before .before .before .before .before .loop .inv .seconds))
     returns-2
     copy-requires
+    (λ c κs. search needs)
     loop-less
     loop-again)
