@@ -70,4 +70,4 @@ bad-position = bad-claim .names-position (settled (inr refl)) (λ e. omega arith
 -- behind 2 the offer has 1 and the end: 2 1 begins a sentence, and 2 is one
 pub bad-offer : Begins (grammarOf cardA) (2 ∷ 1 ∷ []) × Sentence (grammarOf cardA) (2 ∷ [])
 unfolding bit
-bad-offer = let o = bad-claim .offers refl in (o .terminals 1 (λ e. omega arith) .0 refl .1, o .end .0 refl)
+bad-offer = let o = bad-claim .offers refl in (o .followers 1 (λ e. omega arith) .0 refl, o .end .0 refl)

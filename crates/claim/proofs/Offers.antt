@@ -1,13 +1,13 @@
--- What fresh readings say of the grammar: over a table that means it, a terminal is shifted behind a line just where both begin a sentence,
--- and the line is accepted just where it is one.
+-- What fresh readings say of the grammar: over a table that means it, where no limit cuts the reading short, a terminal is shifted behind a line just where
+-- line and terminal begin a sentence, and the line is accepted just where it is one.
 use Prim.Native.Nat.{ℕ, _+_, _-_, _<_}
 use mathlib.Core.Path.{_≡_, refl}
 use mathlib.Core.Logic.{_≢_, _↔_}
-use mathlib.Core.List.{List, [], _∷_, _++_, append-nil}
+use mathlib.Core.List.{List, [], _∷_, _++_, append-nil, append-assoc}
 use lib.ListN.{length}
 use native.Mathlib.Omega.{arith}
 use Rattle.grammar.specs.Grammar.{Grammar, Formed, Symbols, none, more, Sentence}
-use Rattle.grammar.proofs.Yield.{nil, symbols-append}
+use Rattle.grammar.proofs.Yield.{nil, symbols-append, symbols-back}
 use Rattle.lr.proofs.Canonical.{start-viable, by-path}
 use Rattle.lr.specs.Items
 use Rattle.lr.proofs.ItemLaws.{AllProductive, begins}
@@ -54,6 +54,13 @@ nothing a b c = record { accepted = λ e. absurd (a e); not-accepted = λ e. abs
 
 with-terminal : {n m : ℕ} {line : List ℕ} → Symbols n line → m ≢ 0 → m < n → Symbols n (line ++ m ∷ [])
 with-terminal s z h = symbols-append s (more (omega (arith, z)) h none)
+
+-- what begins a sentence are terminals
+begins-terminal : (g : Grammar) (line : List ℕ) (m : ℕ) → Begins g (line ++ m ∷ []) → m < g.terminals
+begins-terminal g line m b = go (symbols-back line (rw append-assoc at (b .whole .terminals)))
+  where
+    go : {x : List ℕ} → Symbols g.terminals (m ∷ x) → m < g.terminals
+    go (more h k _) = k
 
 sentence-begins : {g : Grammar} {l : List ℕ} → Sentence g l → Begins g l
 sentence-begins s = record { completion = []; whole = rw append-nil s }
@@ -136,7 +143,7 @@ module _ (g : Grammar) (f : Formed g) (pr : AllProductive g) (li : Limits g) (t 
       -- the offer is the grammar's
       pub true-offer : TrueOffer g line word
       true-offer = record {
-        terminals = λ m z. (λ i. let p = o .members m .0 i in let b = below (p .0) in (b, shifted-begins z b (p .1)), λ p. offered h o m (above (p .0)) (λ x. wrong-begins-none z (p .0) x (p .1)));
+        followers = λ m z. (λ i. let p = o .members m .0 i in shifted-begins z (below (p .0)) (p .1), λ p. let b = begins-terminal g line m p in offered h o m (above b) (λ x. wrong-begins-none z b x p));
         end = (λ i. accepted-sentence (o .members 0 .0 i .1), λ s. offered h o 0 (above f.end-marker) (λ x. wrong-sentence-none x s));
       }
         where

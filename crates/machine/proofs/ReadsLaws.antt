@@ -1,4 +1,4 @@
--- The definition of a reading has exactly one reading for every table, input, pair of areas and step limit: the computed one.
+-- The definition of a reading has exactly one reading for every table, input, step limit and three areas: the computed one.
 use Prim.Native.Nat.{ℕ, _+_, _<_, _≤_, max}
 use mathlib.Core.Path.{_≡_, refl, sym, ap, _∙_}
 use mathlib.Core.Logic.{_≢_, _↔_}

@@ -73,7 +73,7 @@ tableRefusal t =
 unfoldable pub inputRefusal : List ℕ → List ℕ → ℕ
 inputRefusal t l = unless (leb (length l) 65535) 25 (unless (inputOk t l) 26 0)
 
--- "45 the second area is shorter than the first, after 27"
+-- "45 the second area is shorter than the first, after 27"; the two never both apply
 unfoldable pub areaRefusal : ℕ → ℕ → ℕ
 areaRefusal n k = unless (ltb 0 n) 27 (unless (leb n k) 45 0)
 

@@ -94,7 +94,7 @@ start s rs = record { stack = set s 0 0; list = rs; depth = 1; listed = 0; posit
 
 -- ---- fresh readings
 
--- a line with terminal m behind it; the end marker is none
+-- a line with terminal m behind it; for 0 the line alone
 abbrev pub withNext : List ℕ → ℕ → List ℕ
 withNext line zero = line
 withNext line (suc m) = line ++ suc m ∷ []
@@ -130,7 +130,7 @@ endedAt n m = Report.ended n (m .steps) (m .depth) (m .listed)
 unfoldable pub expectedAt : ℕ → Machine → Report
 expectedAt word m = wrong-at (m .steps) (m .depth) (m .listed) (m .position) word (ones word)
 
--- the report where no fresh reading decides
+-- the report where some fresh reading is cut short
 unfoldable pub unknownAt : Machine → Report
 unknownAt m = unknown-at (m .steps) (m .depth) (m .listed) (m .position)
 

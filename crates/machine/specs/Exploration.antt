@@ -24,9 +24,9 @@ unlisted limit second left = record { steps = left; stack = second; list = limit
 
 -- how the fresh reading for terminal m ends: 0 where it shifts m, or for 0 accepts, else the number on which it stops
 pub data Explored (t : List ℕ) (limit second : ℕ) (line : List ℕ) : (m n : ℕ) → Type 0 where
-  -- "over that line and m, and is over once it shifts m"
+  -- "over that line and m, and is over once it shifts m": nothing is ahead just when m has been shifted; what would come then does not matter
   shifts : {m left : ℕ} {qs out : List ℕ} → m ≢ 0 → Comes t limit second (line ++ m ∷ []) (conf qs [] out) left → Explored t limit second line m 0
-  -- or it stops with m, or more, still to be read
+  -- or it stops with m, or more, still to be read (not with 0: in a table that passes the checks only column 0 accepts)
   stops : {m n left : ℕ} {qs x out : List ℕ} → m ≢ 0 → x ≢ [] → Comes t limit second (line ++ m ∷ []) (conf qs x out) left
       → Stops t (unlisted limit second left) (conf qs x out) n → Explored t limit second line m n
   -- "for 0 it reads that line alone to its end"
@@ -38,7 +38,8 @@ pub data Cut : ℕ → Type 0 where
   no-place-left : Cut 33
   broken-off : Cut 35
 
--- "the offer holds exactly the marks .. that such a fresh reading shifts, or for 0 accepts", as a word; no fresh reading is cut short
+-- "it is the marks that such a fresh reading shifts, or for 0 accepts", as a word; and no fresh reading is cut short.
+-- The second area has a place, by 27 and 45: with none no reading would start
 pub record Offer (t : List ℕ) (limit second : ℕ) (line : List ℕ) (word : ℕ) : Type 0 where
   pub members : (m : ℕ) → Has word m ↔ ((m < terminals t) × Explored t limit second line m 0)
   pub uncut : (m n : ℕ) → m < terminals t → Explored t limit second line m n → Cut n → ⊥

@@ -31,7 +31,7 @@ pub record Faithful (t input stack list second : List ℕ) (limit : ℕ) (r : Re
   pub ahead : List ℕ
   pub productions : List ℕ
   pub path : Path t steps most (conf (0 ∷ []) input []) (conf states ahead productions)
-  -- within both areas on the way
+  -- within stack and list on the way
   pub within : most ≤ length stack
   pub room : length productions ≤ length list
   -- there the machine stops, with what is left of the step limit

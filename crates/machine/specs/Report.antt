@@ -11,7 +11,7 @@ pub data Report : Type 0 where
   wrong-at : (steps depth listed position expected size : ℕ) → Report
   unknown-at : (steps depth listed position : ℕ) → Report
 
--- the paper's number of an answer, and its values in the paper's order; 46 comes "carrying place and count with offer 0"
+-- the paper's number of an answer, and its values in one order for all; 46 comes "carrying place and count with offer 0"
 abbrev pub numbersOf : Report → List ℕ
 numbersOf (refused n) = n ∷ []
 numbersOf (ended n k d i) = n ∷ k ∷ d ∷ i ∷ []

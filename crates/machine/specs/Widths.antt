@@ -26,7 +26,8 @@ module _ (w : ℕ) (t input : List ℕ) (limit : ℕ) where
     goes-on : {m m′ : Machine} {o : Outcome} → actionOf t input m ≢ 0 → m .steps ≢ limit % 2 ^ w → movedBy t (actionOf t input m) m ≡ moved m′
         → RunsIn (counting w m′) o → RunsIn m o
 
--- the whole reading: refused as ever, or run from state 0; fresh readings have "the same allowance", so w bits of the limit
+-- the whole reading: refused as ever, or run from state 0; fresh readings have "the same allowance", so w bits of the limit. Their own steps are reported nowhere,
+-- and never pass that limit, so they are counted as numbers
 pub data ReadsIn (w : ℕ) (t input stack list second : List ℕ) (limit : ℕ) : Reading → Type 0 where
   refuses : {n : ℕ} → refusalOf t input (length stack) (length second) ≡ n → n ≢ 0
       → ReadsIn w t input stack list second limit (record { report = refused n; stack = stack; list = list; second = second })
