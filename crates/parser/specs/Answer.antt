@@ -6,7 +6,7 @@ use Rattle.machine.specs.Report.{numbersOf, Reading}
 use Rattle.table_checks.specs.Verdict.{refusalNumber}
 use Rattle.parser.specs.declared.Counts.{Counts}
 use Rattle.parser.specs.declared.Answer.{Answer}
-use Rattle.parser.specs.declared.Answer.the-variants.{Refused, Accepted, NoAction, Unexplored, StepLimit, StackFull, ListFull, Broken}
+use Rattle.parser.specs.declared.Answer.the-variants.{Refused, Accepted, NoAction, ExpectedUnknown, StepLimit, StackFull, ListFull, Broken}
 
 -- what each end carries: the steps made, the stack places in use, the productions listed
 abbrev pub countsOf : Counts → List ℕ
@@ -17,7 +17,7 @@ abbrev pub numbers : Answer → List ℕ
 numbers (Refused e) = refusalNumber e ∷ []
 numbers (Accepted c) = 0 ∷ countsOf c
 numbers (NoAction position set size c) = 31 ∷ countsOf c ++ position ∷ set ∷ size ∷ []
-numbers (Unexplored position c) = 46 ∷ countsOf c ++ position ∷ 0 ∷ 0 ∷ []
+numbers (ExpectedUnknown position c) = 46 ∷ countsOf c ++ position ∷ 0 ∷ 0 ∷ []
 numbers (StepLimit c) = 32 ∷ countsOf c
 numbers (StackFull c) = 33 ∷ countsOf c
 numbers (ListFull c) = 34 ∷ countsOf c

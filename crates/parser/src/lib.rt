@@ -41,7 +41,7 @@ pub enum Answer {
         counts: Counts,
     },
     // No action either, but a fresh reading was cut short: which terminals can follow is not known.
-    Unexplored {
+    ExpectedUnknown {
         position: usize,
         counts: Counts,
     },
@@ -264,7 +264,7 @@ fn told(e: Expected, position: usize, counts: Counts) -> Answer
             size: sets::size(word),
             counts,
         },
-        Expected::Cut => Answer::Unexplored { position, counts },
+        Expected::Cut => Answer::ExpectedUnknown { position, counts },
     }
 }
 

@@ -54,7 +54,7 @@ fn seven(a: Answer) -> [u64; 7]
             expected,
             size as u64,
         ],
-        Answer::Unexplored { position, counts } => [
+        Answer::ExpectedUnknown { position, counts } => [
             46,
             counts.steps,
             counts.depth as u64,
