@@ -17,11 +17,11 @@ for kept in rlib stamp; do
     [ ! -d target/$kept ] || cp -r target/$kept $out/target/
 done
 for crate in steps unlisted_steps exploration parser; do
-    sed -i 's/\b\(left\|steps\|step_limit\): u64/\1: u32/; s/) as u64,$/) as u32,/' $out/crates/$crate/src/lib.rt
+    sed -i 's/\b\(left\|steps\|step_limit\): u64/\1: u32/; s/) as u64,$/) as u32,/; s/^\(fn portion.*\) -> u64$/\1 -> u32/; s/^ *depth as u64$/depth as u32/' $out/crates/$crate/src/lib.rt
 done
 sed -i 's/^countBits = 64$/countBits = 32/' $out/crates/parser/specs/Phases.antt
 changed=$(diff -r crates $out/crates | grep -c '^> ') || true
-[ "$changed" = 16 ] || { echo "width: $changed lines changed, not 16"; exit 1; }
+[ "$changed" = 21 ] || { echo "width: $changed lines changed, not 21"; exit 1; }
 cd $out
 rt check parser >check.log 2>&1 || { grep -m 3 error check.log || true; echo "width: not proved with counts of 32 bits"; exit 1; }
 # a planted fault: contracts that name another width than the code has

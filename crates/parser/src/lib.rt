@@ -151,14 +151,17 @@ fn advance(
 fn portion(left: u64, depth: usize) -> u64
     ensures { λ r. ⌜ (r ≤ left) × (0 < left → 0 < r) ⌝ }
 {
-    let d = depth as u64;
     if left < 512 {
         return left;
     }
-    if d < 512 {
+    if depth < 512 {
         return 512;
     }
-    if left < d { left } else { d }
+    if (left as usize) < depth {
+        left
+    } else {
+        depth as u64
+    }
 }
 
 // The first n places of the stack, copied.
