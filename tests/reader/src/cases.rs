@@ -91,7 +91,7 @@ impl Language {
             return;
         }
         let mut p = self.least[x];
-        if out.len() < long && depth < 100 {
+        if out.len() < long && depth < 100 + long / 4 {
             // Three tries for another production than the least.
             for _ in 0..3 {
                 let from = r.below(g.left.len());
@@ -407,7 +407,8 @@ impl Cases {
             c.input.extend((0..n).map(|_| r.between(1, t - 1) as u8));
             return;
         }
-        let long = r.of(&[5, 20, 100]);
+        // now and then long enough for a copy of the stack on the way
+        let long = if r.one_in(100) { 2000 } else { r.of(&[5, 20, 100]) };
         c.input = l.sentence(long, r);
         let n = c.input.len();
         match r.below(4) {
