@@ -1,4 +1,4 @@
--- What the loop of `run` keeps between marks, and the laws of its ways out.
+-- What the loop of `run` keeps between checkpoints, and the laws of its ways out.
 use mathlib.Core.Path.{_≡_, refl, sym, ap, subst, _∙_}
 use mathlib.Core.Logic.{_≢_}
 use mathlib.Core.List.{List, _∷_}
@@ -16,14 +16,14 @@ use Rattle.steps.specs.State.{machineOf, Held}
 use Rattle.steps.specs.declared.State.{State}
 use Rattle.exploration.specs.Reaches.{Reaches}
 use Rattle.parser.specs.Answer.{countsOf, numbers}
-use Rattle.parser.specs.Phases.{reached, Countable, Ends, Advances, ended, paused, startState, markAt, noMark, Marked}
+use Rattle.parser.specs.Phases.{reached, Countable, Ends, Advances, ended, paused, startState, checkpointAt, noCheckpoint, Resumes}
 use Rattle.parser.specs.declared.Counts.{Counts}
 use Rattle.parser.specs.declared.Answer.the-variants.{StepLimit}
 use Rattle.parser.specs.declared.Ending.{Ending}
 use Rattle.parser.specs.declared.Ending.the-variants.{Final}
 use Rattle.parser.specs.declared.Progress.{Progress}
 use Rattle.parser.specs.declared.Progress.the-variants.{Ended, Paused}
-use Rattle.parser.specs.declared.Mark.{Mark}
+use Rattle.parser.specs.declared.Checkpoint.{Checkpoint}
 use Rattle.parser.proofs.Held.{held-start}
 use Rattle.parser.proofs.Going.{ends-else}
 
@@ -49,14 +49,14 @@ abbrev pub begun : List ℕ → List ℕ → Machine
 begun st li = record { stack = st; list = li; depth = 1; listed = 0; position = 0; steps = 0 }
 
 -- the areas as the loop starts are st₀, li₀ and se₀, a is the limit; so many steps are left
-pub record Running (t l cs : List ℕ) (a : ℕ) (z : Shape) (st₀ li₀ se₀ st li se : List ℕ) (s : State) (m : Mark) (left : ℕ) : Type 0 where
+pub record Running (t l cs : List ℕ) (a : ℕ) (z : Shape) (st₀ li₀ se₀ st li se : List ℕ) (s : State) (m : Checkpoint) (left : ℕ) : Type 0 where
   pub same : (j : ℕ) → run t l j (machineOf st li s) ≡ run t l (s .position + s .listed + j) (begun st₀ li₀)
   pub held : Held t cs st li z s
   pub spent : s .position + s .listed + left ≡ a
   pub stacks : length st ≡ length st₀
   pub lists : length li ≡ length li₀
   pub seconds : length se ≡ length se₀
-  pub marked : Marked t l a se m
+  pub resumes : Resumes t l a se m
 
 -- fewer steps are left after a portion
 pub less-left : {left b : ℕ} → b ≤ left → (0 < left → 0 < b) → (left - b ≡ 0 → ⊥) → left - b < left
@@ -72,12 +72,12 @@ pub record Pausing (t l cs : List ℕ) (z : Shape) (s : State) (m₀ : Machine) 
 pub pausing : {t l cs : List ℕ} {z : Shape} {s : State} {m₀ : Machine} {st li : List ℕ} {s′ : State} → Advances t l cs z s m₀ st li (Paused s′) → Pausing t l cs z s m₀ st li s′
 pausing (paused h e n m) = record { goes = h; held = e; asks = n; made = m }
 
--- at first there is no mark: no input is longer than 65,535
-no-mark : (t l : List ℕ) (a : ℕ) (se : List ℕ) → length l ≤ 65535 → Marked t l a se noMark
-no-mark t l a se h place k i = absurd (omega (arith, length-take-le place l k))
+-- at first there is no checkpoint: no input is longer than 65,535
+no-checkpoint : (t l : List ℕ) (a : ℕ) (se : List ℕ) → length l ≤ 65535 → Resumes t l a se noCheckpoint
+no-checkpoint t l a se h place k i = absurd (omega (arith, length-take-le place l k))
 
 pub running-start : {t l cs li se : List ℕ} {z : Shape} (st : List ℕ) (a : ℕ) → Passed t l (length st) → length l ≤ 65535 → Shaped t z → cs ≡ drop (z .cells) t
-    → Running t l cs a z (set st 0 0) li se (set st 0 0) li se startState noMark a
+    → Running t l cs a z (set st 0 0) li se (set st 0 0) li se startState noCheckpoint a
 running-start {t} {l} {li = li} {se = se} st a p h s e = record {
   same = λ j. ap (λ (k : ℕ). run t l k (begun (set st 0 0) li)) (omega arith);
   held = held-start st 0 p s e;
@@ -85,10 +85,10 @@ running-start {t} {l} {li = li} {se = se} st a p h s e = record {
   stacks = refl;
   lists = refl;
   seconds = refl;
-  marked = no-mark t l a se h;
+  resumes = no-checkpoint t l a se h;
 }
 
-module _ {t l cs : List ℕ} {a : ℕ} {z : Shape} {st₀ li₀ se₀ st li se : List ℕ} {s : State} {m : Mark} {left : ℕ} (g : Running t l cs a z st₀ li₀ se₀ st li se s m left)
+module _ {t l cs : List ℕ} {a : ℕ} {z : Shape} {st₀ li₀ se₀ st li se : List ℕ} {s : State} {m : Checkpoint} {left : ℕ} (g : Running t l cs a z st₀ li₀ se₀ st li se s m left)
     (b : ℕ) (few : b ≤ left) where
   ends-so : {e : Ending} {st′ li′ : List ℕ} → ((j : ℕ) → Ends (run t l (b + j) (machineOf st li s)) e st′ li′) → Ends (run t l a (begun st₀ li₀)) e st′ li′
   ends-so {e} {st′} {li′} h =
@@ -120,7 +120,7 @@ module _ {t l cs : List ℕ} {a : ℕ} {z : Shape} {st₀ li₀ se₀ st li se :
         (sym so-far ∙ ap (λ (k : ℕ). run t l k (begun st₀ li₀)) (omega (arith, made-is, e, g .spent)))
         (ap (λ (x : List ℕ). 32 ∷ x) ec)
 
-    -- a mark there
+    -- a checkpoint there
     module _ (st₁ : List ℕ) (same-start : start st₁ li₀ ≡ begun st₀ li₀) (p : Passed t l (length st₁)) (e₁ : length st₀ ≡ length st₁) (longer : length st₁ ≤ length se₀) {se′ : List ℕ} (es : length st′ ≡ length st₀) (ez : length se′ ≡ length se₀)
         (copied : take (s′ .depth) se′ ≡ take (s′ .depth) st′) where
       reaches : (place : ℕ) → place ≤ length l → s′ .position < length (take place l)
@@ -146,7 +146,7 @@ module _ {t l cs : List ℕ} {a : ℕ} {z : Shape} {st₀ li₀ se₀ st li se :
           }
 
       pub running-on : length li′ ≡ length li₀
-          → Running t l cs a z st₀ li₀ se₀ st′ li′ se′ s′ (markAt s′ (left - b)) (left - b)
+          → Running t l cs a z st₀ li₀ se₀ st′ li′ se′ s′ (checkpointAt s′ (left - b)) (left - b)
       running-on el = record {
         same = on;
         held = w .held;
@@ -154,5 +154,5 @@ module _ {t l cs : List ℕ} {a : ℕ} {z : Shape} {st₀ li₀ se₀ st li se :
         stacks = es;
         lists = el;
         seconds = ez;
-        marked = reaches;
+        resumes = reaches;
       }

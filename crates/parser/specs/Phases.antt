@@ -19,7 +19,7 @@ use Rattle.parser.specs.declared.Ending.{Ending}
 use Rattle.parser.specs.declared.Ending.the-variants.{Final, Wrong}
 use Rattle.parser.specs.declared.Progress.{Progress}
 use Rattle.parser.specs.declared.Progress.the-variants.{Ended, Paused}
-use Rattle.parser.specs.declared.Mark.{Mark}
+use Rattle.parser.specs.declared.Checkpoint.{Checkpoint}
 use Rattle.parser.specs.Answer.{countsOf, numbers}
 
 -- what an end at a state carries
@@ -65,20 +65,20 @@ pub data Advances (t l cs : List ℕ) (z : Shape) (s : State) (m₀ : Machine) (
 abbrev pub startState : State
 startState = record { depth = 1; listed = 0; position = 0; left = 0; top = 0 }
 
--- the mark at a state with so many steps left, and none
-abbrev pub markAt : State → ℕ → Mark
-markAt s left = record { spot = record { depth = s .depth; left = left; top = s .top }; position = s .position }
+-- the checkpoint at a state with so many steps left, and none
+abbrev pub checkpointAt : State → ℕ → Checkpoint
+checkpointAt s left = record { spot = record { depth = s .depth; left = left; top = s .top }; position = s .position }
 
-abbrev pub noMark : Mark
-noMark = record { spot = record { depth = 1; left = 0; top = 0 }; position = 65535 }
+abbrev pub noCheckpoint : Checkpoint
+noCheckpoint = record { spot = record { depth = 1; left = 0; top = 0 }; position = 65535 }
 
--- a fresh reading behind a line that is longer than what was passed at the mark can go on from there; the second area is se
-abbrev pub MarkedIn : List ℕ → List ℕ → ℕ → List ℕ → Mark → Type 0
-MarkedIn t line limit se m = m .position < length line → Reaches t limit (length se) line se (drop (m .position) line) (m .spot)
+-- a fresh reading behind a line that is longer than what was passed at the checkpoint can go on from there; the second area is se
+abbrev pub ResumesIn : List ℕ → List ℕ → ℕ → List ℕ → Checkpoint → Type 0
+ResumesIn t line limit se m = m .position < length line → Reaches t limit (length se) line se (drop (m .position) line) (m .spot)
 
 -- so it is for each beginning of the input
-abbrev pub Marked : List ℕ → List ℕ → ℕ → List ℕ → Mark → Type 0
-Marked t l limit se m = (place : ℕ) → place ≤ length l → MarkedIn t (take place l) limit se m
+abbrev pub Resumes : List ℕ → List ℕ → ℕ → List ℕ → Checkpoint → Type 0
+Resumes t l limit se m = (place : ℕ) → place ≤ length l → ResumesIn t (take place l) limit se m
 
 -- what is told of an exploration at a position
 abbrev pub tells : Expected → ℕ → Counts → List ℕ

@@ -19,7 +19,7 @@ ghost use Rattle.machine.proofs.Checked.{Checked, Passed};
 ghost use Rattle.exploration.specs.Expected.{Explores};
 ghost use Rattle.steps.specs.State.{machineOf, stopNumber, Held};
 ghost use Rattle.parser.specs.Answer.{countsOf, numbers, ReadsAs};
-ghost use Rattle.parser.specs.Phases.{reached, acceptedAt, countBits, Countable, At, Says, Ends, Advances, startState, markAt, noMark, MarkedIn, Marked, Explorable, tells};
+ghost use Rattle.parser.specs.Phases.{reached, acceptedAt, countBits, Countable, At, Says, Ends, Advances, startState, checkpointAt, noCheckpoint, ResumesIn, Resumes, Explorable, tells};
 ghost use Rattle.parser.specs.Terminals.{Lists};
 
 // The steps made, the stack places in use and the productions listed.
@@ -65,14 +65,14 @@ enum Progress {
 }
 
 // Where a run has been: a fresh reading can go on from there. The second area holds the stack.
-struct Mark {
+struct Checkpoint {
     spot: Spot,
     position: usize,
 }
 
 struct Course {
     end: Ending,
-    mark: Mark,
+    checkpoint: Checkpoint,
 }
 
 fn count(s: State) -> Counts
@@ -147,7 +147,7 @@ fn advance(
     }
 }
 
-// How many of the steps left are made before the next mark: so many that a copy of the stack costs little beside them.
+// How many of the steps left are made before the next checkpoint: so many that a copy of the stack costs little beside them.
 fn portion(left: u64, depth: usize) -> u64
     ensures { λ r. ⌜ (r ≤ left) × (0 < left → 0 < r) ⌝ }
 {
@@ -189,11 +189,11 @@ fn at_start() -> State
     }
 }
 
-// The mark at a state, with so many steps left.
-fn mark_at(s: State, left: u64) -> Mark
-    ensures { λ r. ⌜ r ≡ markAt s left ⌝ }
+// The checkpoint at a state, with so many steps left.
+fn checkpoint_at(s: State, left: u64) -> Checkpoint
+    ensures { λ r. ⌜ r ≡ checkpointAt s left ⌝ }
 {
-    Mark {
+    Checkpoint {
         spot: Spot {
             depth: s.depth,
             left,
@@ -203,11 +203,11 @@ fn mark_at(s: State, left: u64) -> Mark
     }
 }
 
-// No mark: no line is longer than this position.
-fn no_mark() -> Mark
-    ensures { λ r. ⌜ r ≡ noMark ⌝ }
+// No checkpoint: no line is longer than this position.
+fn no_checkpoint() -> Checkpoint
+    ensures { λ r. ⌜ r ≡ noCheckpoint ⌝ }
 {
-    Mark {
+    Checkpoint {
         spot: Spot {
             depth: 1,
             left: 0,
@@ -217,7 +217,7 @@ fn no_mark() -> Mark
     }
 }
 
-// The run over an input by a table, both checked. Now and then it leaves a mark.
+// The run over an input by a table, both checked. Now and then it leaves a checkpoint.
 fn run(
     table: &[u16],
     input: &[u8],
@@ -227,13 +227,13 @@ fn run(
     step_limit: u64,
 ) -> Course
     requires { ⌜ (Passed (now table) (now input) (length (now stack))) × (length (now input) ≤ 65535) × (length (now stack) ≤ length (now second)) ⌝ }
-    ensures { λ r. ⌜ (Ends (runs (now (table .entry)) (now (input .entry)) «step_limit» (start (now (stack .entry)) (now (list .entry)))) (r .end) (now (stack .exit)) (now (list .exit))) × (Marked (now (table .entry)) (now (input .entry)) «step_limit» (now (second .exit)) (r .mark)) ⌝ }
+    ensures { λ r. ⌜ (Ends (runs (now (table .entry)) (now (input .entry)) «step_limit» (start (now (stack .entry)) (now (list .entry)))) (r .end) (now (stack .exit)) (now (list .exit))) × (Resumes (now (table .entry)) (now (input .entry)) «step_limit» (now (second .exit)) (r .checkpoint)) ⌝ }
 {
     let z = tables::shape_of(table);
     let cells = tables::cells_of(table, z);
     stack[0] = 0;
     let mut s = at_start();
-    let mut mark = no_mark();
+    let mut checkpoint = no_checkpoint();
     let mut left = step_limit;
     loop {
         s.left = portion(left, s.depth);
@@ -241,15 +241,15 @@ fn run(
         let n = advance(table, cells, input, stack, list, z, s);
         match n {
             Progress::Ended(end) => {
-                return Course { end, mark };
+                return Course { end, checkpoint };
             }
             Progress::Paused(t) => {
                 if left == 0 {
                     let end = Ending::Final(Answer::StepLimit(count(t)));
-                    return Course { end, mark };
+                    return Course { end, checkpoint };
                 }
                 copy(stack, second, t.depth);
-                mark = mark_at(t, left);
+                checkpoint = checkpoint_at(t, left);
                 s = t;
             }
         }
@@ -271,19 +271,26 @@ fn told(e: Expected, position: usize, counts: Counts) -> Answer
     }
 }
 
-// The exploration behind a line, from the mark where that lies before the line's end, else from the beginning.
+// The exploration behind a line, from the checkpoint where that lies before the line's end, else from the beginning.
 fn explore_from(
     table: &[u16],
     line: &[u8],
     second: &mut [u16],
     step_limit: u64,
-    mark: Mark,
+    checkpoint: Checkpoint,
 ) -> Expected
-    requires { ⌜ (Checked (now table)) × (inputOk (now table) (now line) ≡ true) × (0 < length (now second)) × (MarkedIn (now table) (now line) «step_limit» (now second) mark) ⌝ }
+    requires { ⌜ (Checked (now table)) × (inputOk (now table) (now line) ≡ true) × (0 < length (now second)) × (ResumesIn (now table) (now line) «step_limit» (now second) checkpoint) ⌝ }
     ensures { λ r. ⌜ Explores (now (table .entry)) «step_limit» (length (now (second .entry))) (now (line .entry)) r ⌝ }
 {
-    if mark.position < line.len() {
-        return exploration::explore(table, line, second, mark.spot, mark.position, step_limit);
+    if checkpoint.position < line.len() {
+        return exploration::explore(
+            table,
+            line,
+            second,
+            checkpoint.spot,
+            checkpoint.position,
+            step_limit,
+        );
     }
     let s = exploration::begin(second, step_limit);
     exploration::explore(table, line, second, s, 0, step_limit)
@@ -297,26 +304,34 @@ fn explored(
     step_limit: u64,
     position: usize,
     counts: Counts,
-    mark: Mark,
+    checkpoint: Checkpoint,
 ) -> Answer
-    requires { ⌜ (Checked (now table)) × (inputOk (now table) (now input) ≡ true) × (0 < length (now second)) × (position ≤ length (now input)) × (Marked (now table) (now input) «step_limit» (now second) mark) ⌝ }
+    requires { ⌜ (Checked (now table)) × (inputOk (now table) (now input) ≡ true) × (0 < length (now second)) × (position ≤ length (now input)) × (Resumes (now table) (now input) «step_limit» (now second) checkpoint) ⌝ }
     ensures { λ r. ⌜ ((m : Machine) → At m position counts → numbers r ≡ numbersOf (wrongAt (now (table .entry)) (now (input .entry)) «step_limit» (length (now (second .entry))) m)) ⌝ }
 {
-    let e = explore_from(table, &input[..position], second, step_limit, mark);
+    let e = explore_from(table, &input[..position], second, step_limit, checkpoint);
     told(e, position, counts)
 }
 
 // The answer of a run that has ended.
 fn answered(table: &[u16], input: &[u8], second: &mut [u16], step_limit: u64, r: Course) -> Answer
-    requires { ⌜ (Checked (now table)) × (inputOk (now table) (now input) ≡ true) × (0 < length (now second)) × (Explorable (length (now input)) (r .end)) × (Marked (now table) (now input) «step_limit» (now second) (r .mark)) ⌝ }
+    requires { ⌜ (Checked (now table)) × (inputOk (now table) (now input) ≡ true) × (0 < length (now second)) × (Explorable (length (now input)) (r .end)) × (Resumes (now table) (now input) «step_limit» (now second) (r .checkpoint)) ⌝ }
     ensures { λ a. ⌜ ((o : Outcome) → Says o (r .end) → numbers a ≡ numbersOf (reportOf (now (table .entry)) (now (input .entry)) «step_limit» (length (now (second .entry))) o)) ⌝ }
 {
-    let mark = r.mark;
+    let checkpoint = r.checkpoint;
     let end = r.end;
     match end {
         Ending::Final(a) => a,
         Ending::Wrong(position, counts) => {
-            explored(table, input, second, step_limit, position, counts, mark)
+            explored(
+                table,
+                input,
+                second,
+                step_limit,
+                position,
+                counts,
+                checkpoint,
+            )
         }
     }
 }
@@ -333,7 +348,7 @@ fn clear(second: &mut [u16])
 
 // The same, and the second area is cleared.
 fn finish(table: &[u16], input: &[u8], second: &mut [u16], step_limit: u64, r: Course) -> Answer
-    requires { ⌜ (Checked (now table)) × (inputOk (now table) (now input) ≡ true) × (0 < length (now second)) × (Explorable (length (now input)) (r .end)) × (Marked (now table) (now input) «step_limit» (now second) (r .mark)) ⌝ }
+    requires { ⌜ (Checked (now table)) × (inputOk (now table) (now input) ≡ true) × (0 < length (now second)) × (Explorable (length (now input)) (r .end)) × (Resumes (now table) (now input) «step_limit» (now second) (r .checkpoint)) ⌝ }
     ensures { λ a. ⌜ ((o : Outcome) → Says o (r .end) → numbers a ≡ numbersOf (reportOf (now (table .entry)) (now (input .entry)) «step_limit» (length (now (second .entry))) o)) × (now (second .exit) ≡ replicate (length (now (second .entry))) 0) ⌝ }
 {
     let a = answered(table, input, second, step_limit, r);

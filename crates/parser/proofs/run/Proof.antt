@@ -11,11 +11,11 @@ use Rattle.parser.proofs.run.Statement.{statement}
 use Rattle.parser.proofs.run.Tie as tie
 
 abbrev Inv-loop : tie.InvT-loop
-Inv-loop table input stack₀ list₀ second₀ step-limit z cells s₀ mark₀ left₀ stack list second s mark left =
-    Running table input cells step-limit z stack₀ list₀ second₀ stack list second s mark left
+Inv-loop table input stack₀ list₀ second₀ step-limit z cells s₀ checkpoint₀ left₀ stack list second s checkpoint left =
+    Running table input cells step-limit z stack₀ list₀ second₀ stack list second s checkpoint left
 
 abbrev μ-loop : tie.MeasureT-loop
-μ-loop table input stack₀ list₀ second₀ step-limit z cells s₀ mark₀ left₀ stack list second s mark left = left
+μ-loop table input stack₀ list₀ second₀ step-limit z cells s₀ checkpoint₀ left₀ stack list second s checkpoint left = left
 
 shape-of-requires : tie.Need-shape-of-requires Inv-loop μ-loop
 shape-of-requires c κs = c .before .before .before .before .before .pre .0 .table .long
@@ -30,7 +30,7 @@ loop-holds : tie.Need-loop-holds Inv-loop μ-loop
 loop-holds c =
     let b3 = c .before .before .before in
     let b9 = b3 .before .before .before .before .before .before in
-    rw (c .no-mark .ensures, c .before .at-start .ensures) (running-start (now (b9 .args .stack)) _ (b9 .pre .0) (b9 .pre .1) (b3 .shape-of .ensures) (c .before .before .cells-of .ensures))
+    rw (c .no-checkpoint .ensures, c .before .at-start .ensures) (running-start (now (b9 .args .stack)) _ (b9 .pre .0) (b9 .pre .1) (b3 .shape-of .ensures) (c .before .before .cells-of .ensures))
 
 advance-requires : tie.Need-advance-requires Inv-loop μ-loop
 advance-requires c κs =
@@ -57,7 +57,7 @@ unfolding start
 returns c =
     let b7 = c .before .before .before .before .before .before .before in
     let b12 = b7 .before .before .before .before .before in
-    (run-ends (b12 .loop .inv) _ (b7 .before .before .before .before .portion .ensures .0) (rw (c .before .n .given .1) at (b7 .advance .ensures)), b12 .loop .inv .marked)
+    (run-ends (b12 .loop .inv) _ (b7 .before .before .before .before .portion .ensures .0) (rw (c .before .n .given .1) at (b7 .advance .ensures)), b12 .loop .inv .resumes)
 
 count-requires : tie.Need-count-requires Inv-loop μ-loop
 count-requires c κs =
@@ -86,7 +86,7 @@ returns-2 c =
     let g = b13 .before .loop .inv in
     let f = b13 .portion .ensures .0 in
     let p = pausing (rw (c .before .before .before .n2 .given .1) at (b9 .advance .ensures)) in
-    (spent-ends g _ f _ _ _ p (omega (arith, f, c .before .if1 .taken)) (c .count .ensures), g .marked)
+    (spent-ends g _ f _ _ _ p (omega (arith, f, c .before .if1 .taken)) (c .count .ensures), g .resumes)
 
 copy-requires : tie.Need-copy-requires Inv-loop μ-loop
 copy-requires c κs =
@@ -117,7 +117,7 @@ loop-again c =
     let g = b19 .loop .inv in
     let p = pausing (rw (b6 .before .before .n2 .given .1) at (b14 .advance .ensures)) in
     let k = c .before .before .before .copy in
-    rw (c .mark-at .ensures)
+    rw (c .checkpoint-at .ensures)
     (running-on g _ (b18 .portion .ensures .0) _ _ _ p (now (q .args .stack)) refl (q .pre .0) (length-set (now (q .args .stack)) 0 0) (q .pre .2)
     (b14 .advance .kept .1 .1 .1 .0 ∙ g .stacks) (k .kept .1 .0 ∙ g .seconds) (k .ensures) (b14 .advance .kept .1 .1 .1 .1 .0 ∙ g .lists))
 
