@@ -13,7 +13,7 @@
 //
 // So no line makes more than 16842752 steps here: each but the acceptance passes a terminal or takes a place of LIST. The
 // fresh readings that find what can follow have no list: only STEP_LIMIT bounds the time that they take. Where one of them
-// stops, the answer has `expected unknown (46)`: allow more steps or a longer second area.
+// is cut short (32, 33 or 35), the answer has `expected unknown (46)`: allow more steps or a longer second area.
 use sidumza::{entered, parse, read_table, terminals, Answer, Counts, Refusal};
 use std::io::{BufRead, Write};
 

@@ -112,7 +112,9 @@ enum {
  * all terminals of a way are tried together. By most grammars there is one way, and the call takes little more than the
  * reading itself.
  * - The first way reads again what was read since the last checkpoint. The reader keeps one as it goes, every 512 steps or
- *   so, or as many as the stack is deep where that is more. Each further way reads the whole input before the position.
+ *   so, or as many as the stack is deep where that is more. Where the last one lies behind the last terminal before the
+ *   position, as it may where many reductions come before the wrong terminal is found, and for each further way, the whole
+ *   input before the position is read again.
  * - Each way makes its reductions apart, all of them, also those that the input has still open: by right recursion
  *   (A -> x A | x) as many as there are terminals before the position.
  * - All these steps take 5 to 14 nanoseconds each (docs/changes/05-true-offers.md, bench/reader/offers.sh). By S -> Ai i,

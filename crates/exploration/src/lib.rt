@@ -257,7 +257,7 @@ fn others(
     Expected::Known(found)
 }
 
-// Which terminals can follow the line, by fresh readings in the second area. The first goes on from a spot that the
+// Which terminals can follow the line, by fresh readings in the second area. The first pass goes on from a spot that the
 // caller has come to with some terminals of the line passed; it is mostly the only one, and stands apart: with two
 // callers a pass is compiled by itself, and not into the loop of the parser, which would slow it.
 pub fn explore(

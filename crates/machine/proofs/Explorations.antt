@@ -1,10 +1,10 @@
 -- Laws of the fresh readings: each ends in just one way, which is the computed one, and none with a full list.
 use Prim.Native.Nat.{ℕ, zero, suc, _+_, _-_, _<_, _≤_, max}
-use mathlib.Core.Path.{_≡_, refl, sym, ap, subst, _∙_}
+use mathlib.Core.Path.{_≡_, refl, sym, ap, _∙_}
 use mathlib.Core.Logic.{_≢_, _↔_}
 use mathlib.Core.Bool.{Bool, true, false, cond, _&&_}
 use mathlib.Core.List.{List, [], _∷_, _++_}
-use lib.ListN.{length, drop, take, getD, replicate, length-append, length-replicate, List·getD-append}
+use lib.ListN.{length, take, getD, replicate, length-append, length-replicate, List·getD-append}
 use lib.Seq.{length-take-le, getD-take, getD-append-seam}
 use lib.Dec.{ltb, eqb}
 use borrow.Author.Tests.{lt-ltb, le-ltb, eq-eqb, eqb-true}
@@ -15,13 +15,13 @@ use Rattle.sets.specs.Tests.{allBelow}
 use Rattle.sets.proofs.TestLaws.{all-at, all-true}
 use Rattle.tables.specs.Layout.{terminals, leftOf, lengthOf, accept, cellOf}
 use Rattle.machine.specs.Checks.{inputOk, terminalOk}
-use Rattle.machine.specs.Stops.{Allowed, Stops, accepted-here, wrong-here, no-steps, list-full, broken-here, stack-full}
+use Rattle.machine.specs.Stops.{Stops, accepted-here, wrong-here, no-steps, list-full, broken-here, stack-full}
 pub use Rattle.machine.specs.Exploration.{Comes, unlisted, Explored, shifts, stops, reads, Cut, no-steps-left, no-place-left, broken-off, Offer, CutShort}
 use Rattle.machine.specs.ComputedRun.{Machine, Next, ended, moved, accepted, topOf, actionOf, shifted, reducedTo, reduced, movedBy, Outcome, after, run, start, withNext, fresh, freshNumber, decided, expectedWord, wordOf}
 use Rattle.machine.proofs.Checked.{Checked, Passed}
-use Rattle.machine.proofs.LrMachineLaws.{Config, conf, depth, listed, Step, Path, path-depth}
+use Rattle.machine.proofs.LrMachineLaws.{Config, conf, depth, listed, Step, Path}
 use Rattle.machine.proofs.Settles.{unread, Settled, settles}
-use Rattle.machine.proofs.Areas.{Holds, Held, held, Leads, ends-at, atEnd, counted, held-start, follows}
+use Rattle.machine.proofs.Areas.{Held, held, Leads, ends-at, atEnd, counted, held-start, follows}
 use Rattle.machine.proofs.Offers.{same-members, word-members}
 
 -- a test that fails for some number below n fails there

@@ -13,7 +13,7 @@ use Rattle.tables.specs.Layout.{terminals, leftOf, lengthOf, accept, cellOf}
 use Rattle.machine.specs.Checks.{refusalOf}
 use Rattle.machine.specs.Report.{Report, refused, wrong-at, unknown-at, Reading}
 
--- both areas, how many places of each are in use, the position in the input and the steps made
+-- stack and list area, how many places of each are in use, the position in the input and the steps made
 pub record Machine : Type 0 where
   pub stack : List ℕ
   pub list : List ℕ

@@ -1,4 +1,4 @@
--- What the loop of `run` keeps, and the laws of its ways out, in the values that the code has.
+-- What the loop of `advance` keeps, and the laws of its ways out, in the values that the code has.
 use mathlib.Core.Path.{_≡_, refl, sym, ap, subst, _∙_}
 use mathlib.Core.Logic.{_≢_}
 use mathlib.Core.List.{List, _∷_}
@@ -7,7 +7,7 @@ use native.Mathlib.Omega.{arith}
 use lib.ListN.{length, getD}
 use Rattle.machine.specs.Report.{numbersOf}
 use Rattle.machine.specs.ComputedRun.{Machine, Next, actionOf, movedBy, Outcome, after, run, endedAt}
-use Rattle.machine.proofs.RunLaws.{run-wrong, run-none, run-more}
+use Rattle.machine.proofs.RunLaws.{run-wrong, run-more}
 use Rattle.tables.specs.declared.Shape.{Shape}
 use Rattle.machine.proofs.Checked.{Passed}
 use Rattle.steps.specs.State.{machineOf, acceptedOf, stopNumber, Held, Stepped}

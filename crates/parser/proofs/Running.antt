@@ -15,13 +15,12 @@ use Rattle.machine.proofs.Checkpoints.{Come, come}
 use Rattle.steps.specs.State.{machineOf, Held}
 use Rattle.steps.specs.declared.State.{State}
 use Rattle.exploration.specs.Reaches.{Reaches}
-use Rattle.parser.specs.Answer.{countsOf, numbers}
+use Rattle.parser.specs.Answer.{countsOf}
 use Rattle.parser.specs.Phases.{reached, Countable, Ends, Advances, ended, paused, startState, checkpointAt, noCheckpoint, Resumes}
 use Rattle.parser.specs.declared.Counts.{Counts}
 use Rattle.parser.specs.declared.Answer.the-variants.{StepLimit}
 use Rattle.parser.specs.declared.Ending.{Ending}
 use Rattle.parser.specs.declared.Ending.the-variants.{Final}
-use Rattle.parser.specs.declared.Progress.{Progress}
 use Rattle.parser.specs.declared.Progress.the-variants.{Ended, Paused}
 use Rattle.parser.specs.declared.Checkpoint.{Checkpoint}
 use Rattle.parser.proofs.Held.{held-start}

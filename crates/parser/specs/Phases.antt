@@ -48,14 +48,14 @@ pub data Says (o : Outcome) : Ending → Type 0 where
   final : {r : Answer} → o .number ≢ 31 → numbers r ≡ numbersOf (endedAt (o .number) (o .final)) → Says o (Final r)
   wrong : {position : ℕ} {c : Counts} → o .number ≡ 31 → At (o .final) position c → Says o (Wrong position c)
 
--- so are both areas at exit
+-- so are stack and list at exit
 pub record Ends (o : Outcome) (e : Ending) (st li : List ℕ) : Type 0 where
   pub says : Says o e
   pub stack : st ≡ o .final .stack
   pub list : li ≡ o .final .list
 
 -- what comes of the steps left at a state s, from the machine m₀: the end of every run with that many steps and more, or the state that every such run comes to,
--- with no step left and a step to be made
+-- with all of them made and an action to follow
 pub data Advances (t l cs : List ℕ) (z : Shape) (s : State) (m₀ : Machine) (st li : List ℕ) : Progress → Type 0 where
   ended : {e : Ending} → ((j : ℕ) → Ends (run t l (s .left + j) m₀) e st li) → Advances t l cs z s m₀ st li (Ended e)
   paused : {s′ : State} → ((j : ℕ) → run t l (s .left + j) m₀ ≡ run t l j (machineOf st li s′)) → Held t cs st li z s′ → actionOf t l (machineOf st li s′) ≢ 0

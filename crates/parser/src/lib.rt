@@ -70,6 +70,7 @@ struct Checkpoint {
     position: usize,
 }
 
+// How a run ended, and its last checkpoint.
 struct Course {
     end: Ending,
     checkpoint: Checkpoint,

@@ -1,7 +1,4 @@
-use denote.Ref.{now}
-use mathlib.Core.Path.{_∙_}
 use native.Mathlib.Omega.{arith}
-use lib.ListN.{length}
 use borrow.Author.Needs.{needs}
 use Rattle.parser.proofs.explore_from.Statement.{statement}
 use Rattle.parser.proofs.explore_from.Tie as tie

@@ -6,7 +6,7 @@ use lib.ListN.{length-set}
 use Rattle.machine.specs.ComputedRun.{start}
 use Rattle.machine.proofs.Checked.{cells-within}
 use Rattle.parser.specs.Phases.{countBits}
-use Rattle.parser.proofs.Running.{Running, with-left, held-left, running-start, run-ends, Pausing, pausing, countable-so, spent-ends, less-left, running-on}
+use Rattle.parser.proofs.Running.{Running, held-left, running-start, run-ends, pausing, countable-so, spent-ends, less-left, running-on}
 use Rattle.parser.proofs.run.Statement.{statement}
 use Rattle.parser.proofs.run.Tie as tie
 
