@@ -19,17 +19,13 @@ use Rattle.machine.specs.Exploration.{Comes, unlisted, Explored, shifts, stops,
 use Rattle.machine.proofs.LrMachineLaws.{Config, conf}
 use Rattle.machine.proofs.ReportLaws.{Stops}
 use Rattle.machine.proofs.Settles.{path-unread}
-use Rattle.machine.proofs.Explorations.{ends-somehow, Way, found, wrong, cut-off, way}
+use Rattle.machine.proofs.Explorations.{some-long, ends-somehow, Way, found, wrong, cut-off, way}
 use Rattle.claim.specs.TrueOffer.{TrueOffer}
 use Rattle.claim.proofs.Means.{Limits, TableMeans}
 use Rattle.claim.proofs.Follow.{act, tab, follows, Followed, followed}
 use Rattle.claim.proofs.Endings.{Ended, sentence, no-sentence, out-32, out-33, out-34, ended, end-is}
 
 -- ---- for any table
-
-some : {x : List ℕ} → x ≢ [] → 0 < length x
-some {x = []} n = absurd (n refl)
-some {x = a ∷ x} n = omega arith
 
 -- where no fresh reading is cut short, the offer holds each terminal whose fresh reading does not stop on 31
 offered : {t line : List ℕ} {limit second word : ℕ} → 0 < second → Offer t limit second line word → (m : ℕ) → m < terminals t → (Explored t limit second line m 31 → ⊥) → Has word m
@@ -76,7 +72,7 @@ module _ (g : Grammar) (f : Formed g) (pr : AllProductive g) (li : Limits g) (t 
             record {
               accepted = λ e. absurd (omega arith);
               not-accepted = λ _. s;
-              not-begun = λ _ n b. omega (arith, some n, path-unread t (c .path), end-is g l (length l - length x) p .1 (b, s));
+              not-begun = λ _ n b. omega (arith, some-long x n, path-unread t (c .path), end-is g l (length l - length x) p .1 (b, s));
               not-broken = λ e. omega arith;
             }
         go out-32 = nothing (λ e. omega arith) (λ e. omega arith) (λ e. omega arith)

@@ -183,7 +183,7 @@ next-is : (line : List ℕ) (m : ℕ) → m ≢ 0 → withNext line m ≡ line +
 next-is line zero nz = absurd (nz refl)
 next-is line (suc m) nz = refl
 
-some-long : (x : List ℕ) → x ≢ [] → 0 < length x
+pub some-long : (x : List ℕ) → x ≢ [] → 0 < length x
 some-long [] n = absurd (n refl)
 some-long (a ∷ x) n = omega arith
 

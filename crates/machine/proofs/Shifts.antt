@@ -15,12 +15,12 @@ pub data Below (n : ℕ) : List ℕ → Type 0 where
   none : Below n []
   more : {q : ℕ} {qs : List ℕ} → q < n → Below n qs → Below n (q ∷ qs)
 
-below-drop : {n : ℕ} (k : ℕ) {qs : List ℕ} → Below n qs → Below n (drop k qs)
+pub below-drop : {n : ℕ} (k : ℕ) {qs : List ℕ} → Below n qs → Below n (drop k qs)
 below-drop zero b = b
 below-drop (suc k) none = none
 below-drop (suc k) (more h b) = below-drop k b
 
-below-top : {n q : ℕ} {qs : List ℕ} → Below n (q ∷ qs) → q < n
+pub below-top : {n q : ℕ} {qs : List ℕ} → Below n (q ∷ qs) → q < n
 below-top (more h b) = h
 
 -- ---- the terminals from place i on

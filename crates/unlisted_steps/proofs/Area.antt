@@ -1,5 +1,5 @@
 -- A stack area where states are pushed and popped: a push writes the place above the top, a pop writes nothing.
-use Prim.Native.Nat.{ℕ, zero, suc, _+_, _-_, _<_}
+use Prim.Native.Nat.{ℕ, suc, _+_, _-_, _<_}
 use mathlib.Core.Path.{_≡_, refl, sym, ap, _∙_}
 use mathlib.Core.List.{List, [], _∷_, _++_, reverse, reverse-cons}
 use lib.ListN.{length, drop, take, getD, set, length-set, length-drop}
@@ -8,18 +8,9 @@ use native.Mathlib.Omega.{arith}
 use Rattle.tables.specs.Layout.{states}
 use Rattle.machine.specs.ComputedRun.{topOf}
 use Rattle.machine.proofs.Areas.{reverse-drop, top-at}
-use Rattle.machine.proofs.Shifts.{Below, none, more}
+use Rattle.machine.proofs.Shifts.{more, below-drop}
 use Rattle.unlisted_steps.specs.Spot.{Stands}
 use Rattle.unlisted_steps.specs.declared.Spot.{Spot}
-
--- what stays under k popped states
-below-under : {n p : ℕ} {ps : List ℕ} (k : ℕ) {qs : List ℕ} → drop k qs ≡ p ∷ ps → Below n qs → Below n (p ∷ ps)
-below-under zero e b = rw e at b
-below-under {ps} (suc k) e none = let l : 0 ≡ suc (length ps) = ap length e in absurd (omega arith)
-below-under (suc k) e (more h b) = below-under k e b
-
-pub below-top : {n p : ℕ} {ps : List ℕ} → Below n (p ∷ ps) → p < n
-below-top (more h b) = h
 
 module _ {t st : List ℕ} {s : Spot} {q : ℕ} {qs : List ℕ} (h : Stands t st s q qs) where
   -- one state more
@@ -64,5 +55,5 @@ module _ {t st : List ℕ} {s : Spot} {q : ℕ} {qs : List ℕ} (h : Stands t st
       within = let w = h .within in omega arith;
       stacked = rw under-top under-stacked;
       top-is = refl;
-      below = below-under n drops (h .below);
+      below = rw drops at (below-drop n (h .below));
     }

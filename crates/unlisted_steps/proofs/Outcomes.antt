@@ -13,7 +13,8 @@ use Rattle.unlisted_steps.specs.Spot.{Readable, Stands, Standing, Shifts
 use Rattle.unlisted_steps.specs.declared.Spot.{Spot}
 use Rattle.unlisted_steps.specs.declared.Next.{Next}
 use Rattle.unlisted_steps.specs.declared.Next.the-variants.{Moved, Full, Broken}
-use Rattle.unlisted_steps.proofs.Area.{below-top, pushed, drops, popped}
+use Rattle.machine.proofs.Shifts.{below-top}
+use Rattle.unlisted_steps.proofs.Area.{pushed, drops, popped}
 
 -- ---- a shift
 
