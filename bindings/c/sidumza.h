@@ -118,7 +118,7 @@ enum {
  * - Each way makes its reductions apart, all of them, also those that the input has still open: by right recursion
  *   (A -> x A | x) as many as there are terminals before the position.
  * - All these steps take 5 to 14 nanoseconds each (docs/changes/05-true-offers.md, bench/reader/offers.sh). By S -> Ai i,
- *   Ai -> x Ai | x with 42 such i, so 42 ways, an input of 60000 x takes 28 milliseconds, 212 times its reading.
+ *   Ai -> x Ai | x with 42 such i, so 42 ways, an input of 60000 x takes 27 milliseconds, some 200 times its reading.
  *
  * To callers of the call without a second area:
  * - Choose a step limit that you would wait for: the list's length no longer bounds the time of a call. This goes for all
