@@ -1,14 +1,19 @@
 /* A page program: parses each line of standard input by the table of a file.
  *
- *   page TABLE [STEP_LIMIT [STACK [LIST]]]
+ *   page TABLE [STEP_LIMIT [STACK [LIST [SECOND]]]]
  *
  * TABLE is a table as maketable prints it. A line is terminals in decimal; an empty line is the empty
  * input. Each line gets one line of answer. That of a wrong line names the symbols that the terminals before
- * the place were read as: those under which the states on the stack were entered.
+ * the place were read as, those under which the states on the stack were entered, and the terminals that can follow there.
  *
- * STEP_LIMIT: up to 18446744073709551615; 1000000 where none is given. STACK and LIST, in places: up to 16777216 each;
- * 65536 and 1000000 where none is given. So no line makes more than 16842752 steps here: each but the acceptance passes
- * a terminal or takes a place of LIST.
+ * STEP_LIMIT: up to 18446744073709551615; 1000000 where none is given. STACK, LIST and SECOND, in places: up to 16777216
+ * each; 65536, 1000000 and STACK + 1 where none is given. Where no production is empty, 65536 and 65537 places of stack and
+ * second area are enough for every line. With no stack (27) and with SECOND shorter than STACK (45) no line is read: a
+ * message, and status 2, as for a bad table.
+ *
+ * So no line makes more than 16842752 steps here: each but the acceptance passes a terminal or takes a place of LIST. The
+ * fresh readings that find what can follow have no list: only STEP_LIMIT bounds the time that they take. Where one of them
+ * is cut short (32, 33 or 35), the answer has `expected unknown (46)`: allow more steps or a longer second area.
  */
 #include <ctype.h>
 #include <errno.h>
@@ -27,7 +32,9 @@ static const char *const refusals[] = {
 
 static const char *refusal(uint64_t number)
 {
-    return number == SIDUMZA_BAD_ENTERED ? "bad entering symbol in the table" : refusals[number - SIDUMZA_TABLE_SHORT];
+    return number == SIDUMZA_BAD_ENTERED    ? "bad entering symbol in the table"
+           : number == SIDUMZA_SECOND_SHORT ? "second stack area too short"
+                                            : refusals[number - SIDUMZA_TABLE_SHORT];
 }
 
 static void fail(const char *form, ...)
@@ -99,25 +106,48 @@ static size_t load(const char *path, uint16_t *table, size_t table_len)
     return n;
 }
 
-static void show(const uint64_t *out, const uint16_t *table, size_t table_len, const uint16_t *stack,
-                 const uint16_t *list)
+/* STEP_LIMIT, STACK, LIST and SECOND. */
+enum { LIMIT, STACK, LIST, SECOND, LIMITS };
+
+/* What a page lends to the parser. */
+struct page {
+    uint64_t limits[LIMITS];
+    uint16_t table[SIDUMZA_TABLE_MOST], *stack, *list, *second;
+    size_t table_len;
+};
+
+static void parse(struct page *p, const uint8_t *input, size_t n, uint64_t step_limit, uint64_t *out)
+{
+    sidumza_parse(p->table, p->table_len, input, n, p->stack, p->limits[STACK], p->list, p->limits[LIST], p->second,
+                  p->limits[SECOND], step_limit, out);
+}
+
+/* A wrong line: its position, what the terminals before it were read as, and what can follow there. */
+static void show_wrong(const struct page *p, const uint64_t *out)
+{
+    uint8_t terminals[64];
+    size_t many = sidumza_terminals(out[SIDUMZA_EXPECTED], terminals);
+    printf("wrong at %llu: steps %llu", (unsigned long long)out[SIDUMZA_POSITION], (unsigned long long)out[SIDUMZA_STEPS]);
+    for (uint64_t i = 1; i < out[SIDUMZA_DEPTH]; i++)
+        printf("%s %u", i == 1 ? ", after" : "", sidumza_entered(p->table, p->table_len, p->stack[i]));
+    printf(", expected");
+    for (size_t i = 0; i < many; i++)
+        printf(" %u", terminals[i]);
+    if (out[SIDUMZA_NUMBER] == SIDUMZA_EXPECTED_UNKNOWN)
+        printf(" unknown (46)");
+}
+
+static void show(const struct page *p, const uint64_t *out)
 {
     uint64_t n = out[SIDUMZA_NUMBER];
     unsigned long long steps = out[SIDUMZA_STEPS];
     if (n == SIDUMZA_ACCEPTED) {
         printf("accepted: steps %llu, productions", steps);
         for (uint64_t i = 0; i < out[SIDUMZA_LISTED]; i++)
-            printf(" %u", list[i]);
-    } else if (n == SIDUMZA_NO_ACTION) {
-        printf("wrong at %llu: steps %llu", (unsigned long long)out[SIDUMZA_POSITION], steps);
-        for (uint64_t i = 1; i < out[SIDUMZA_DEPTH]; i++)
-            printf("%s %u", i == 1 ? ", after" : "", sidumza_entered(table, table_len, stack[i]));
-        printf(", expected");
-        uint8_t terminals[64];
-        size_t many = sidumza_terminals(out[SIDUMZA_EXPECTED], terminals);
-        for (size_t i = 0; i < many; i++)
-            printf(" %u", terminals[i]);
-    } else if (n < SIDUMZA_NO_ACTION || n == SIDUMZA_BAD_ENTERED) {
+            printf(" %u", p->list[i]);
+    } else if (n == SIDUMZA_NO_ACTION || n == SIDUMZA_EXPECTED_UNKNOWN) {
+        show_wrong(p, out);
+    } else if (out[SIDUMZA_DEPTH] == 0) {
         printf("refused %llu: %s", (unsigned long long)n, refusal(n));
     } else {
         printf("stopped %llu: steps %llu, stack %llu, listed %llu", (unsigned long long)n, steps,
@@ -126,30 +156,42 @@ static void show(const uint64_t *out, const uint16_t *table, size_t table_len, c
     putchar('\n');
 }
 
-/* The step limit and the lengths of stack and list, where arguments give them. */
-static void arguments(int argc, char **argv, uint64_t limits[3])
+/* The step limit and the lengths of the areas, where arguments give them. */
+static void arguments(int argc, char **argv, uint64_t limits[LIMITS])
 {
-    static const uint64_t most[3] = {UINT64_MAX, 1 << 24, 1 << 24};
-    if (argc < 2 || argc > 5)
-        fail("usage: page TABLE [STEP_LIMIT [STACK [LIST]]]");
+    static const uint64_t most[LIMITS] = {UINT64_MAX, 1 << 24, 1 << 24, 1 << 24};
+    if (argc < 2 || argc > 2 + LIMITS)
+        fail("usage: page TABLE [STEP_LIMIT [STACK [LIST [SECOND]]]]");
     for (int i = 2; i < argc; i++) {
         char *s = argv[i];
         if (!number(&s, most[i - 2], &limits[i - 2]) || *s)
             fail("%s: not a number up to %llu", argv[i], (unsigned long long)most[i - 2]);
     }
+    if (argc < 2 + LIMITS)
+        limits[SECOND] = limits[STACK] + 1;
+}
+
+/* Loads the table and makes the areas; ends the program where one of them is refused. */
+static void open_page(struct page *p, const char *path)
+{
+    uint64_t out[SIDUMZA_OUT];
+    p->table_len = load(path, p->table, SIDUMZA_TABLE_MOST);
+    p->stack = room(NULL, p->limits[STACK] * sizeof *p->stack);
+    p->list = room(NULL, p->limits[LIST] * sizeof *p->list);
+    p->second = room(NULL, p->limits[SECOND] * sizeof *p->second);
+    parse(p, NULL, 0, 0, out);
+    uint64_t n = out[SIDUMZA_NUMBER];
+    if (out[SIDUMZA_DEPTH] == 0)
+        fail("%s: refused %d: %s", n == SIDUMZA_NO_STACK ? "STACK" : n == SIDUMZA_SECOND_SHORT ? "SECOND" : path, (int)n,
+             refusal(n));
 }
 
 int main(int argc, char **argv)
 {
-    uint64_t limits[3] = {1000000, 65536, 1000000};
-    arguments(argc, argv, limits);
-    static uint16_t table[SIDUMZA_TABLE_MOST];
-    size_t table_len = load(argv[1], table, SIDUMZA_TABLE_MOST);
-    uint16_t *stack = room(NULL, limits[1] * sizeof *stack), *list = room(NULL, limits[2] * sizeof *list);
+    static struct page page = {.limits = {1000000, 65536, 1000000}};
     uint64_t out[SIDUMZA_OUT];
-    sidumza_parse(table, table_len, NULL, 0, stack, limits[1], list, limits[2], 0, out);
-    if ((out[0] >= SIDUMZA_TABLE_SHORT && out[0] <= SIDUMZA_BAD_CELL) || out[0] == SIDUMZA_BAD_ENTERED)
-        fail("%s: refused %d: %s", argv[1], (int)out[0], refusal(out[0]));
+    arguments(argc, argv, page.limits);
+    open_page(&page, argv[1]);
 
     char *line = NULL;
     uint8_t *input = NULL;
@@ -164,14 +206,15 @@ int main(int argc, char **argv)
             input[n++] = v;
         if (s != line + got)
             fail("line %lu: not a line of terminals", k);
-        sidumza_parse(table, table_len, input, n, stack, limits[1], list, limits[2], limits[0], out);
-        show(out, table, table_len, stack, list);
+        parse(&page, input, n, page.limits[LIMIT], out);
+        show(&page, out);
     }
     if (ferror(stdin) || fflush(stdout) != 0)
         fail("cannot read or write");
     free(line);
     free(input);
-    free(stack);
-    free(list);
+    free(page.stack);
+    free(page.list);
+    free(page.second);
     return 0;
 }

@@ -1,15 +1,20 @@
 // A page program: parses each line of standard input by the table of a file.
 //
-//   page TABLE [STEP_LIMIT [STACK [LIST]]]
+//   page TABLE [STEP_LIMIT [STACK [LIST [SECOND]]]]
 //
 // TABLE is a table as maketable prints it. A line is terminals in decimal; an empty line is the empty
 // input. Each line gets one line of answer. That of a wrong line names the symbols that the terminals before
-// the place were read as: those under which the states on the stack were entered.
+// the place were read as, those under which the states on the stack were entered, and the terminals that can follow there.
 //
-// STEP_LIMIT: up to 18446744073709551615; 1000000 where none is given. STACK and LIST, in places: up to 16777216 each;
-// 65536 and 1000000 where none is given. So no line makes more than 16842752 steps here: each but the acceptance passes
-// a terminal or takes a place of LIST.
-use sidumza::{entered, parse, read_table, terminals, Answer, Refusal};
+// STEP_LIMIT: up to 18446744073709551615; 1000000 where none is given. STACK, LIST and SECOND, in places: up to 16777216
+// each; 65536, 1000000 and STACK + 1 where none is given. Where no production is empty, 65536 and 65537 places of stack and
+// second area are enough for every line. With no stack (27) and with SECOND shorter than STACK (45) no line is read: a
+// message, and status 2, as for a bad table.
+//
+// So no line makes more than 16842752 steps here: each but the acceptance passes a terminal or takes a place of LIST. The
+// fresh readings that find what can follow have no list: only STEP_LIMIT bounds the time that they take. Where one of them
+// is cut short (32, 33 or 35), the answer has `expected unknown (46)`: allow more steps or a longer second area.
+use sidumza::{entered, parse, read_table, terminals, Answer, Counts, Refusal};
 use std::io::{BufRead, Write};
 
 fn fail(why: String) -> ! {
@@ -28,38 +33,53 @@ fn words(numbers: impl Iterator<Item = u32>) -> String {
 }
 
 fn show(answer: Answer, table: &[u16], stack: &[u16], list: &[u16]) -> String {
+    // a wrong line: what the terminals before the position were read as, and what can follow there
+    let wrong = |position: usize, counts: Counts, expected: String| {
+        let read = words(stack[1..counts.depth].iter().map(|&q| entered(table)[q as usize].into()));
+        let after = if read.is_empty() { "" } else { ", after" };
+        format!("wrong at {position}: steps {}{after}{read}, expected{expected}", counts.steps)
+    };
     match answer {
         Answer::Accepted { counts } => {
             let listed = words(list[..counts.listed].iter().map(|&p| p.into()));
             format!("accepted: steps {}, productions{listed}", counts.steps)
         }
-        Answer::NoAction { position, expected, counts, .. } => {
-            let read = words(stack[1..counts.depth].iter().map(|&q| entered(table)[q as usize].into()));
-            let after = if read.is_empty() { "" } else { ", after" };
-            let expected = words(terminals(expected));
-            format!("wrong at {position}: steps {}{after}{read}, expected{expected}", counts.steps)
-        }
+        Answer::NoAction { position, expected, counts, .. } => wrong(position, counts, words(terminals(expected))),
+        Answer::ExpectedUnknown { position, counts } => wrong(position, counts, " unknown (46)".to_string()),
         other => other.to_string(),
     }
 }
 
-fn main() {
-    let args: Vec<String> = std::env::args_os().map(|a| a.to_string_lossy().into_owned()).collect();
-    if args.len() < 2 || args.len() > 5 {
-        fail("usage: page TABLE [STEP_LIMIT [STACK [LIST]]]".to_string());
+// The step limit and the lengths of stack, list and second area, where arguments give them.
+fn limits(args: &[String]) -> [u64; 4] {
+    let most = [u64::MAX, 1 << 24, 1 << 24, 1 << 24];
+    if args.len() < 2 || args.len() > 2 + most.len() {
+        fail("usage: page TABLE [STEP_LIMIT [STACK [LIST [SECOND]]]]".to_string());
     }
-    let mut limits = [1000000, 65536, 1000000];
-    for ((word, limit), max) in args[2..].iter().zip(&mut limits).zip([u64::MAX, 1 << 24, 1 << 24]) {
+    let mut limits = [1000000, 65536, 1000000, 0];
+    for ((word, limit), max) in args[2..].iter().zip(&mut limits).zip(most) {
         *limit = number(word, max).unwrap_or_else(|| fail(format!("{word}: not a number up to {max}")));
     }
+    if args.len() < 2 + most.len() {
+        limits[3] = limits[1] + 1;
+    }
+    limits
+}
+
+fn main() {
+    let args: Vec<String> = std::env::args_os().map(|a| a.to_string_lossy().into_owned()).collect();
+    let limits = limits(&args);
     let path = &args[1];
     let text = std::fs::read(path).unwrap_or_else(|e| fail(format!("{path}: {e}")));
     let table = read_table(&text).unwrap_or_else(|fault| fail(format!("{path}: {fault}")));
-    let (mut stack, mut list) = (vec![0; limits[1] as usize], vec![0; limits[2] as usize]);
-    if let Answer::Refused { refusal } = parse(&table, &[], &mut stack, &mut list, 0) {
-        if refusal != Refusal::NoStack {
-            fail(format!("{path}: {refusal}"));
-        }
+    let [mut stack, mut list, mut second] = [1, 2, 3].map(|i| vec![0; limits[i] as usize]);
+    if let Answer::Refused { refusal } = parse(&table, &[], &mut stack, &mut list, &mut second, 0) {
+        let what = match refusal {
+            Refusal::NoStack => "STACK",
+            Refusal::SecondShort => "SECOND",
+            _ => path,
+        };
+        fail(format!("{what}: {refusal}"));
     }
     let mut out = std::io::BufWriter::new(std::io::stdout().lock());
     for (k, line) in std::io::stdin().lock().split(b'\n').enumerate() {
@@ -73,7 +93,7 @@ fn main() {
             let _ = out.flush();
             fail(format!("line {}: not a line of terminals", k + 1))
         };
-        let answer = parse(&table, &input, &mut stack, &mut list, limits[0]);
+        let answer = parse(&table, &input, &mut stack, &mut list, &mut second, limits[0]);
         writeln!(out, "{}", show(answer, &table, &stack, &list)).unwrap_or_else(|e| fail(e.to_string()));
     }
     out.flush().unwrap_or_else(|e| fail(e.to_string()));

@@ -1,6 +1,6 @@
 #!/bin/sh
 # Runs a page program over the examples and over bad files: test.sh PROGRAM
-# Each answer must be the expected one; each bad file must get a message and exit status 2.
+# Each answer must be the expected one; each bad file or argument must get a message and exit status 2.
 here=$(dirname "$0")
 page=$1
 [ -x "$page" ] || { echo "examples: no program $page" >&2; exit 2; }
@@ -38,7 +38,7 @@ bad() {
     fi
 }
 
-for example in a json; do
+for example in a json nested pair; do
     "$page" "$here/$example.table" <"$here/$example.lines" >"$tmp/out" || failed=1
     same $example.lines "$here/$example.expected"
 done
@@ -46,7 +46,6 @@ done
 says "2 1" "stopped 32: steps 4, stack 2, listed 2" "$here/a.table" 4
 says "2 1" "stopped 33: steps 2, stack 2, listed 1" "$here/a.table" 100 2
 says "2 1" "stopped 34: steps 3, stack 3, listed 1" "$here/a.table" 100 10 1
-says "2 1" "refused 27: no stack area" "$here/a.table" 100 0
 # limits of 64 bits: no part of such a number is the limit
 for limit in 4294967295 4294967296 4294967297 4294967300 9223372036854775808 18446744073709551615 \
     0018446744073709551615; do
@@ -54,13 +53,33 @@ for limit in 4294967295 4294967296 4294967297 4294967300 9223372036854775808 184
     says "2 2" "wrong at 1: steps 1, after 2, expected 0 1" "$here/a.table" $limit
     says "2 1" "stopped 33: steps 2, stack 2, listed 1" "$here/a.table" $limit 2
     says "2 1" "stopped 34: steps 3, stack 3, listed 1" "$here/a.table" $limit 10 1
+    says "2 2" "wrong at 1: steps 1, after 2, expected unknown (46)" "$here/a.table" $limit 2 0 2
+    says "2 2" "wrong at 1: steps 1, after 2, expected 0 1" "$here/a.table" $limit 2 0 3
 done
 says "" "accepted: steps 2, productions 0" "$here/empty.table"
-says "" "wrong at 0: steps 0, expected 2" "$here/a.table" 0 1 0
+# what can follow takes steps and places: of the limit, of the second area and of nothing else
+says "" "wrong at 0: steps 0, expected unknown (46)" "$here/a.table" 0
+says "" "wrong at 0: steps 0, expected unknown (46)" "$here/a.table" 1 1 0 1
+says "" "wrong at 0: steps 0, expected 2" "$here/a.table" 1 1 0 2
+for limit in 1 2; do
+    says "2 2" "wrong at 1: steps 1, after 2, expected unknown (46)" "$here/a.table" $limit
+done
+says "2 2" "wrong at 1: steps 1, after 2, expected 0 1" "$here/a.table" 3 2 0 3
+says "2 2" "wrong at 1: steps 1, after 2, expected unknown (46)" "$here/a.table" 3 2 0 2
+# where no second area is given it has a place more than the stack
+says "" "wrong at 0: steps 0, expected 2" "$here/a.table" 1 1
+says "2 2" "wrong at 1: steps 1, after 2, expected 0 1" "$here/a.table" 3 2 0
 printf 'table 1 1 1 1\nleft 1\nlength 1\nentered 0\nrow 0 : 1024 0\n' >"$tmp/foreign"
 says "" "stopped 35: steps 0, stack 1, listed 0" "$tmp/foreign"
+printf 'table 1 2 1 1\nleft 2\nlength 1\nentered 0\nrow 0 : 0 1024 0\n' >"$tmp/foreign"
+says "" "wrong at 0: steps 0, expected unknown (46)" "$tmp/foreign"
+says "1" "stopped 35: steps 0, stack 1, listed 0" "$tmp/foreign"
 awk 'BEGIN { printf "2"; for (i = 0; i < 65535; i++) printf " 1"; print "" }' >"$tmp/long"
 says "$(cat "$tmp/long")" "refused 25: input too long" "$here/a.table"
+# the longest line, wrong at its end, takes all of the stack and of the second area that are lent where none is given
+long=$(awk 'BEGIN { for (i = 1; i < 65535; i++) printf "1 " }')
+says "${long}1" "wrong at 65535: steps 65536, after ${long}3, expected 1 2" "$here/nested.table"
+says "${long}1" "wrong at 65535: steps 65536, after ${long}3, expected unknown (46)" "$here/nested.table" 1000000 65536 1 65536
 
 bad "" # no table named
 bad "" "$tmp/missing"
@@ -68,12 +87,30 @@ bad "" "$here"
 bad "" /dev/null
 bad "" "$here/a.lines"
 bad "" "$here/a.table" many
+bad "" "$here/a.table" 1 2 3 many
+bad "" "$here/a.table" 1 2 3 16777217
+bad "" "$here/a.table" 1 2 3 4 5
 for limit in 18446744073709551616 18446744073709551620 36893488147419103232 99999999999999999999999 4294967296x -1 +5 \
     0x5 ""; do
     bad "" "$here/a.table" "$limit"
     [ "$(cat "$tmp/err")" = "page: $limit: not a number up to 18446744073709551615" ] ||
         { echo "examples: $page: limit '$limit': message '$(cat "$tmp/err")'"; failed=1; }
 done
+# lent MESSAGE ARGUMENTS: areas with which no line is read get this message once, and status 2
+lent() {
+    message=$1
+    shift
+    bad "2 2\n2 1\n" "$here/a.table" "$@"
+    if [ -s "$tmp/out" ] || [ "$(cat "$tmp/err")" != "page: $message" ]; then
+        echo "examples: $page: areas $*: message '$(cat "$tmp/err")', answers '$(cat "$tmp/out")'"
+        failed=1
+    fi
+}
+
+lent "STACK: refused 27: no stack area" 100 0
+lent "STACK: refused 27: no stack area" 3 0 0 0
+lent "SECOND: refused 45: second stack area too short" 3 2 0 1
+lent "SECOND: refused 45: second stack area too short" 3 2 0 0
 # broken LINES EXPECTED: standard input fails behind these lines; what was answered is printed, with status 2
 broken() {
     python3 - "$page" "$here/a.table" "$1" >"$tmp/out" 2>"$tmp/err" <<'END'

@@ -14,12 +14,14 @@ sh tests/reader/run.sh
 MAKETABLE=target/bin/maketable sh tests/generator/run.sh
 # the benchmark of long counts, with 4099 steps in place of 2^32 + 3
 NONTERMINALS=12 sh bench/reader/long.sh
+# the benchmark of what can follow, with short inputs: the sets are those that Bison expects
+ROUNDS=1 LENGTHS="10 100 1000" sh bench/reader/offers.sh
 # the scripts and the tool beside the proofs; the first call builds it
 ./explain <examples/a.card >/dev/null
 python3 tests/scripts/scripts.py target/bin/maketable target/cargo/release/explain
 sh tests/explain/run.sh
 # the examples' tables, and what the documents say
-for example in a json; do
+for example in a json nested pair; do
     ./maketable <examples/$example.card | cmp - examples/$example.table
 done
 echo "1 1 1 0 1 0" | ./maketable | cmp - examples/empty.table

@@ -33,8 +33,9 @@ enum { BISON, ARCHIVE, PLAIN, TUNED, ALL };
 static const char *const names[ALL] = {"Bison", "archive", "plain C", "tuned C"};
 static parse_fn *const readers[ALL] = {NULL, sidumza_parse, plain_parse, tuned_parse};
 
-enum { STACK = 100000, LIST = 1000000 };
-static uint16_t stack[STACK], list[ALL][LIST];
+/* The sentences need few places, and the second area is zeroed in each call: no more are lent. */
+enum { STACK = 1000, LIST = 1000000 };
+static uint16_t stack[STACK], second[STACK], list[ALL][LIST];
 static uint64_t out[7];
 
 static double now(void)
@@ -50,7 +51,8 @@ static size_t run(int who, const struct grammar *g)
     if (who == BISON) {
         out[0] = g->bison(g->input, g->input_len, list[who], &listed);
     } else {
-        readers[who](g->table, g->table_len, g->input, g->input_len, stack, STACK, list[who], LIST, UINT64_MAX, out);
+        readers[who](g->table, g->table_len, g->input, g->input_len, stack, STACK, list[who], LIST, second, STACK,
+                     UINT64_MAX, out);
         listed = out[3];
     }
     if (out[0] != 0) {
@@ -67,7 +69,7 @@ static double check(int who, const uint16_t *table, size_t len, int rounds)
     for (int k = 0; k < rounds; k++) {
         double s = now();
         for (int i = 0; i < 16; i++)
-            readers[who](table, len, NULL, 0, stack, STACK, list[who], LIST, 1, out);
+            readers[who](table, len, NULL, 0, stack, STACK, list[who], LIST, second, STACK, 1, out);
         double e = (now() - s) / 16;
         best = e < best ? e : best;
     }
@@ -116,7 +118,7 @@ int main(void)
         const uint16_t *t = last ? large : grammars[i].table;
         size_t len = last ? LARGEST : grammars[i].table_len, cells = len - 4 - 2 * t[3] - t[0];
         double archive = check(ARCHIVE, t, len, rounds) / cells, plain = check(PLAIN, t, len, rounds) / cells;
-        if ((out[0] > SIDUMZA_ACCEPTED && out[0] < SIDUMZA_NO_ACTION) || out[0] == SIDUMZA_BAD_ENTERED) {
+        if (out[SIDUMZA_DEPTH] == 0) {
             printf("a table is refused with %llu\n", (unsigned long long)out[0]);
             return 1;
         }

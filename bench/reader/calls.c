@@ -9,7 +9,10 @@
 #include "sidumza.h"
 #include "sidumza_table.h"
 
-static uint16_t table[SIDUMZA_TABLE_MOST], largest[SIDUMZA_TABLE_MOST], stack[1000], list[1000];
+enum { AREA = 1000 };
+
+static uint16_t table[SIDUMZA_TABLE_MOST], largest[SIDUMZA_TABLE_MOST], stack[AREA], list[AREA],
+    second[AREA];
 static uint64_t out[SIDUMZA_OUT];
 
 static double now(void)
@@ -25,7 +28,7 @@ static double call(const uint16_t *t, size_t len, const uint8_t *input, size_t i
     for (int round = 0; round < 200; round++) {
         double start = now();
         for (int i = 0; i < 20; i++)
-            sidumza_parse(t, len, input, input_len, stack, 1000, list, 1000, limit, out);
+            sidumza_parse(t, len, input, input_len, stack, AREA, list, AREA, second, AREA, limit, out);
         double took = (now() - start) / 20;
         if (took < least)
             least = took;

@@ -1,13 +1,15 @@
 /* What a call with a short input costs, which is mostly the check of the table: checks TABLE..
  * For each table of a file as maketable prints it, then for one of 256 rows of few cells and for three of the largest
  * sizes: name, numbers, cells, and the least nanoseconds of a call with no terminal and of one with one terminal.
- * The archive may be one whose tables have no entering symbols: then they are taken out of each table first. */
+ * The archive may be one whose tables have no entering symbols: then they are taken out of each table first. With
+ * WITHOUT_SECOND it is one whose call has no second area. */
 #include <stdio.h>
 #include <stdlib.h>
 #include <string.h>
 #include <time.h>
 
 #include "largest.h"
+#include "loop.h"
 #include "sidumza.h"
 #include "sidumza_table.h"
 
@@ -15,6 +17,12 @@ enum { ROUNDS = 200, CALLS = 20, AREA = 1000 };
 
 static uint16_t table[SIDUMZA_TABLE_MOST], stack[AREA], list[AREA];
 static uint64_t out[SIDUMZA_OUT];
+
+#ifdef WITHOUT_SECOND
+old_parse_fn old_parse __asm__("sidumza_parse");
+#else
+static uint16_t second[AREA];
+#endif
 
 static double now(void)
 {
@@ -25,7 +33,11 @@ static double now(void)
 
 static uint64_t parse(const uint16_t *t, size_t len, const uint8_t *input, size_t input_len)
 {
-    sidumza_parse(t, len, input, input_len, stack, AREA, list, AREA, AREA, out);
+#ifdef WITHOUT_SECOND
+    old_parse(t, len, input, input_len, stack, AREA, list, AREA, AREA, out);
+#else
+    sidumza_parse(t, len, input, input_len, stack, AREA, list, AREA, second, AREA, AREA, out);
+#endif
     return out[SIDUMZA_NUMBER];
 }
 
@@ -78,7 +90,7 @@ static void measure(const char *name, size_t len, int entered)
     if (!entered)
         len = without(table, len);
     double none = least(len, NULL, 0), one = least(len, first, 1);
-    if ((out[0] > SIDUMZA_ACCEPTED && out[0] < SIDUMZA_NO_ACTION) || out[0] == SIDUMZA_BAD_ENTERED) {
+    if (out[SIDUMZA_DEPTH] == 0) {
         printf("%s is refused with %llu\n", name, (unsigned long long)out[0]);
         exit(2);
     }

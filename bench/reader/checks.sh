@@ -1,22 +1,25 @@
 #!/bin/sh
 # Times calls with no terminal and with one, which is mostly the check of the table: checks.sh [ARCHIVE..]
 # ARCHIVEs are libparser_c.a, such as one from before a change and one from after it, also with tables of another form
-# (checks.c); by default target/staticlib/libparser_c.a of the repository. Needs gcc and awk.
+# (checks.c); old=ARCHIVE is one whose call has no second area. By default target/staticlib/libparser_c.a of the
+# repository. Needs gcc and awk.
 # They run in turn, RUNS times (5), and the least times are taken.
 set -e
 root=$(cd "$(dirname "$0")/../.." && pwd)
 out=$root/target/bench/checks
 [ $# -gt 0 ] || set -- "$root/target/staticlib/libparser_c.a"
 for archive; do
-    [ -f "$archive" ] || { echo "no archive $archive" >&2; exit 2; }
+    [ -f "${archive#old=}" ] || { echo "no archive $archive" >&2; exit 2; }
 done
 mkdir -p "$out"
 number=0
 for archive; do
     number=$((number + 1))
     echo "archive $number: $archive"
-    gcc -O2 -Wall -Wextra -I"$root/bindings/c" "$root/bench/reader/checks.c" "$root/bindings/c/sidumza_table.c" \
-        "$archive" -o "$out/checks-$number"
+    without=
+    [ "$archive" = "${archive#old=}" ] || without=-DWITHOUT_SECOND
+    gcc -O2 -Wall -Wextra $without -I"$root/bindings/c" "$root/bench/reader/checks.c" "$root/bindings/c/sidumza_table.c" \
+        "${archive#old=}" -o "$out/checks-$number"
 done
 run=0
 : >"$out/times"

@@ -1,5 +1,6 @@
-// Writes for each grammar FILE.txt: OUT/FILE.h (table and a long sentence as C arrays) and
-// OUT/FILE.y (the same grammar for Bison). Usage: gen OUT FILE.txt...
+// Writes for each grammar FILE.txt: OUT/FILE.h (table and a long sentence as C arrays) and the same grammar for Bison:
+// OUT/FILE.y, OUT/FILE_lac.y (with lookahead correction and detailed errors) and OUT/FILE_all.y (that gives all expected
+// tokens). Usage: gen OUT FILE.txt...
 #[path = "../../tests/reader/src/lalr.rs"]
 mod lalr;
 use lalr::Grammar;
@@ -87,7 +88,38 @@ fn sentence(g: &Grammar, n: usize) -> Vec<u8> {
     }
 }
 
-fn bison(g: &Grammar, name: &str) -> String {
+// What a parser of Bison does about errors beyond telling that there is one.
+#[derive(PartialEq)]
+enum Errors {
+    Plain,
+    // Lookahead correction, and a message with what is expected, up to four tokens.
+    Detailed,
+    // Lookahead correction, and all expected tokens as bits of a word, those of the terminals' numbers.
+    All,
+}
+
+fn errors(kind: &Errors, name: &str) -> String {
+    match kind {
+        Errors::Plain => String::new(),
+        Errors::Detailed => "%define parse.lac full\n%define parse.error detailed\n".to_string(),
+        Errors::All => format!(
+            "%define parse.lac full\n%define parse.error custom\n%code {{\nstatic uint64_t expected;\n\
+             uint64_t {name}_expected(void) {{ return expected; }}\n}}\n"
+        ),
+    }
+}
+
+// The function that Bison calls with `parse.error custom`: kinds 1 and 2 are no terminals, and those behind them are the
+// terminals from 1 on.
+const REPORT: &str = "static int yyreport_syntax_error(const yypcontext_t *context) {\n\
+    yysymbol_kind_t kinds[YYNTOKENS];\n\
+    int many = yypcontext_expected_tokens(context, kinds, YYNTOKENS);\n\
+    expected = 0;\n\
+    for (int i = 0; i < many; i++)\n\
+    expected |= (uint64_t)1 << (kinds[i] == 0 ? 0 : kinds[i] - 2);\n\
+    return 0;\n}\n";
+
+fn bison(g: &Grammar, name: &str, kind: Errors) -> String {
     let symbol = |x: usize| {
         if x < g.terminals {
             format!("T{x}")
@@ -101,6 +133,11 @@ fn bison(g: &Grammar, name: &str) -> String {
          static int {name}_lex(void) {{ return next < last ? *next++ : 0; }}\n\
          static void {name}_error(const char *s) {{ (void)s; }}\n}}\n"
     );
+    s += &errors(&kind, name);
+    if kind != Errors::Plain {
+        // Deep inputs are timed, too.
+        s += "%code top {\n#define YYMAXDEPTH 1000000\n}\n";
+    }
     for x in 1..g.terminals {
         writeln!(s, "%token T{x} {x}").unwrap();
     }
@@ -109,9 +146,10 @@ fn bison(g: &Grammar, name: &str) -> String {
         let right: Vec<String> = right.iter().map(|&x| symbol(x)).collect();
         writeln!(s, "n{a}: {} {{ list[listed++] = {p}; }};", right.join(" ")).unwrap();
     }
+    let report = if kind == Errors::All { REPORT } else { "" };
     write!(
         s,
-        "%%\nint {name}_run(const uint8_t *input, size_t n, uint16_t *out, size_t *count) {{\n\
+        "%%\n{report}int {name}_run(const uint8_t *input, size_t n, uint16_t *out, size_t *count) {{\n\
          next = input; last = input + n; list = out; listed = 0;\n\
          int r = {name}_parse();\n*count = listed;\nreturn r;\n}}\n"
     )
@@ -133,6 +171,9 @@ fn main() {
         let h = array("uint16_t", &format!("{name}_table"), &table)
             + &array("uint8_t", &format!("{name}_input"), &sentence(&g, 65535));
         std::fs::write(format!("{}/{name}.h", args[1]), h).unwrap();
-        std::fs::write(format!("{}/{name}.y", args[1]), bison(&g, name)).unwrap();
+        for (suffix, kind) in [("", Errors::Plain), ("_lac", Errors::Detailed), ("_all", Errors::All)] {
+            let named = format!("{name}{suffix}");
+            std::fs::write(format!("{}/{named}.y", args[1]), bison(&g, &named, kind)).unwrap();
+        }
     }
 }

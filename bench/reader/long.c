@@ -19,7 +19,7 @@
 
 enum { MOST_NONTERMINALS = 36, STACK = 100, PIECE = 1 << 26 };
 
-static uint16_t table[SIDUMZA_TABLE], stack[STACK], *list;
+static uint16_t table[SIDUMZA_TABLE], stack[STACK], second[STACK], *list;
 
 /* A call and its answer: limit and length of the list; number, steps, depth and listed. */
 struct call {
@@ -84,7 +84,7 @@ static int right(const char *who, parse_fn *parse, const struct call *c)
     uint64_t out[SIDUMZA_OUT];
     int good = 1;
     double start = now();
-    parse(table, SIDUMZA_TABLE, input, sizeof input, stack, STACK, list, c->list_len, c->limit, out);
+    parse(table, SIDUMZA_TABLE, input, sizeof input, stack, STACK, list, c->list_len, second, STACK, c->limit, out);
     double took = now() - start;
     printf("%-8s %20llu %12llu %6llu %12llu %12llu %8.2f %6.2f\n", who, (unsigned long long)c->limit,
            (unsigned long long)c->list_len, (unsigned long long)out[0], (unsigned long long)out[1],

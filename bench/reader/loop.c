@@ -1,8 +1,10 @@
 /* Two C readers with the duties of sidumza_parse: the checks in order, limits, popped places zeroed,
-   counts. No index is tested that the checks have settled. */
+   counts, and behind 31 a fresh reading for each terminal. No index is tested that the checks have settled. */
+#include <string.h>
+
 #include "loop.h"
 
-static unsigned check(const uint16_t *t, size_t t_len, const uint8_t *in, size_t in_len, size_t stack_len)
+static unsigned check(const uint16_t *t, size_t t_len, const uint8_t *in, size_t in_len, size_t stack_len, size_t second_len)
 {
     if (t_len < 4)
         return 21;
@@ -38,22 +40,76 @@ static unsigned check(const uint16_t *t, size_t t_len, const uint8_t *in, size_t
     for (size_t i = 0; i < in_len; i++)
         if (in[i] == 0 || in[i] >= T)
             return 26;
-    return stack_len == 0 ? 27 : 0;
+    return stack_len == 0 ? 27 : second_len < stack_len ? 45 : 0;
 }
 
-static void answer(const uint16_t *t, unsigned end, uint64_t steps, size_t depth, size_t listed, size_t pos, unsigned top,
-                   uint64_t out[7])
+/* A reduction in a fresh reading: 0, or the end before it. */
+static unsigned reduce(const uint16_t *t, const uint16_t *cells, unsigned r, uint16_t *second, size_t second_len,
+                       size_t *depth)
 {
-    const uint16_t *row = t + 4 + 2 * t[3] + t[0] + top * (t[1] + t[2]);
-    out[0] = end, out[1] = steps, out[2] = depth, out[3] = listed;
-    if (end != 31)
-        return;
-    out[4] = pos;
-    for (unsigned x = 0; x < t[1]; x++)
-        if (row[x]) {
-            out[5] |= (uint64_t)1 << x;
-            out[6]++;
+    size_t n = t[4 + t[3] + r], d = *depth - n;
+    if (n >= *depth)
+        return 35;
+    unsigned q = cells[second[d - 1] * (t[1] + t[2]) + t[4 + r]];
+    if (q == 0)
+        return 35;
+    if (d == second_len)
+        return 33;
+    second[d] = q;
+    *depth = d + 1;
+    return 0;
+}
+
+/* A fresh reading over the first terminals of the input and m: 0 once that is shifted or, as end marker, accepted; else
+   the end. */
+static unsigned fresh(const uint16_t *t, const uint8_t *in, size_t before, unsigned m, uint16_t *second,
+                      size_t second_len, uint64_t limit)
+{
+    const uint16_t *cells = t + 4 + 2 * t[3] + t[0];
+    size_t depth = 1, pos = 0;
+    second[0] = 0;
+    for (uint64_t steps = 0;; steps++) {
+        unsigned a = cells[second[depth - 1] * (t[1] + t[2]) + (pos < before ? in[pos] : m)];
+        if (a == 0)
+            return 31;
+        if (steps == limit)
+            return 32;
+        if (a == 4096)
+            return 0;
+        if (a < 1024) {
+            if (depth == second_len)
+                return 33;
+            second[depth++] = a;
+            if (pos++ == before)
+                return 0;
+        } else {
+            unsigned end = reduce(t, cells, a - 1024, second, second_len, &depth);
+            if (end)
+                return end;
         }
+    }
+}
+
+/* Where a reading ended. */
+struct spot {
+    uint64_t steps;
+    size_t depth, listed, pos;
+};
+
+static void answer(const uint16_t *t, const uint8_t *in, unsigned end, const struct spot *s, uint16_t *second,
+                   size_t second_len, uint64_t limit, uint64_t out[7])
+{
+    out[0] = end, out[1] = s->steps, out[2] = s->depth, out[3] = s->listed;
+    if (end == 31)
+        out[4] = s->pos;
+    for (unsigned m = 0; m < t[1] && out[0] == 31; m++) {
+        unsigned found = fresh(t, in, s->pos, m, second, second_len, limit);
+        if (found == 0)
+            out[5] |= (uint64_t)1 << m, out[6]++;
+        else if (found != 31)
+            out[0] = 46, out[5] = out[6] = 0;
+    }
+    memset(second, 0, second_len * sizeof *second);
 }
 
 #define STOP(n) \
@@ -63,11 +119,11 @@ static void answer(const uint16_t *t, unsigned end, uint64_t steps, size_t depth
     }
 
 void plain_parse(const uint16_t *t, size_t t_len, const uint8_t *in, size_t in_len, uint16_t *stack, size_t stack_len,
-                 uint16_t *list, size_t list_len, uint64_t limit, uint64_t out[7])
+                 uint16_t *list, size_t list_len, uint16_t *second, size_t second_len, uint64_t limit, uint64_t out[7])
 {
     for (int i = 0; i < 7; i++)
         out[i] = 0;
-    out[0] = check(t, t_len, in, in_len, stack_len);
+    out[0] = check(t, t_len, in, in_len, stack_len, second_len);
     if (out[0])
         return;
     unsigned W = t[1] + t[2], top = 0, end;
@@ -110,7 +166,7 @@ void plain_parse(const uint16_t *t, size_t t_len, const uint8_t *in, size_t in_l
         }
         steps++;
     }
-    answer(t, end, steps, depth, listed, pos, top, out);
+    answer(t, in, end, &(struct spot){steps, depth, listed, pos}, second, second_len, limit, out);
 }
 
 /* A reduction of n symbols; n is a constant but in the last arm. */
@@ -135,11 +191,11 @@ void plain_parse(const uint16_t *t, size_t t_len, const uint8_t *in, size_t in_l
     }
 
 void tuned_parse(const uint16_t *t, size_t t_len, const uint8_t *in, size_t in_len, uint16_t *stack, size_t stack_len,
-                 uint16_t *list, size_t list_len, uint64_t limit, uint64_t out[7])
+                 uint16_t *list, size_t list_len, uint16_t *second, size_t second_len, uint64_t limit, uint64_t out[7])
 {
     for (int i = 0; i < 7; i++)
         out[i] = 0;
-    out[0] = check(t, t_len, in, in_len, stack_len);
+    out[0] = check(t, t_len, in, in_len, stack_len, second_len);
     if (out[0])
         return;
     size_t W = t[1] + t[2], top = 0;
@@ -180,5 +236,5 @@ void tuned_parse(const uint16_t *t, size_t t_len, const uint8_t *in, size_t in_l
         }
         steps++;
     }
-    answer(t, end, steps, depth, listed, pos, top, out);
+    answer(t, in, end, &(struct spot){steps, depth, listed, pos}, second, second_len, limit, out);
 }

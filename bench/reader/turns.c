@@ -1,6 +1,7 @@
 /* Times two readers over the same long sentences of the same grammars, in turn in one process: turns [ROUNDS]
  * For each grammar the least of ROUNDS rounds (200), in ns a terminal, by each of them. turns.sh links them as first_parse
- * and second_parse; the limit fits 32 bits, so either may take it in 32 or in 64 bits. */
+ * and second_parse; the limit fits 32 bits, so either may take it in 32 or in 64 bits. With FIRST_WITHOUT or
+ * SECOND_WITHOUT it is one whose call has no second area. */
 #include <stdint.h>
 #include <stdio.h>
 #include <stdlib.h>
@@ -13,10 +14,32 @@
 #include "expression.h"
 #include "json.h"
 
-parse_fn first_parse, second_parse;
+/* The sentences need few places, and the second area is zeroed in each call: no more are lent. */
+enum { STACK = 1000, LIST = 1000000 };
+static uint16_t stack[STACK], second[STACK], list[LIST];
 
-enum { STACK = 100000, LIST = 1000000 };
-static uint16_t stack[STACK], list[LIST];
+#define WITHOUT(parse) \
+    old_parse_fn parse; \
+    static void parse##_now(const uint16_t *t, size_t t_len, const uint8_t *in, size_t in_len, uint64_t out[7]) \
+    { \
+        parse(t, t_len, in, in_len, stack, STACK, list, LIST, UINT32_MAX, out); \
+    }
+#define WITH(parse) \
+    parse_fn parse; \
+    static void parse##_now(const uint16_t *t, size_t t_len, const uint8_t *in, size_t in_len, uint64_t out[7]) \
+    { \
+        parse(t, t_len, in, in_len, stack, STACK, list, LIST, second, STACK, UINT32_MAX, out); \
+    }
+#ifdef FIRST_WITHOUT
+WITHOUT(first_parse)
+#else
+WITH(first_parse)
+#endif
+#ifdef SECOND_WITHOUT
+WITHOUT(second_parse)
+#else
+WITH(second_parse)
+#endif
 
 static double now(void)
 {
@@ -28,12 +51,11 @@ static double now(void)
 static void turns(const char *name, const uint16_t *table, size_t table_len, const uint8_t *input, size_t input_len,
                   int rounds)
 {
-    parse_fn *const readers[2] = {first_parse, second_parse};
     double best[2] = {1e18, 1e18};
     uint64_t out[7];
     for (int k = 0; k < 2 * rounds; k++) {
         double s = now();
-        readers[k % 2](table, table_len, input, input_len, stack, STACK, list, LIST, UINT32_MAX, out);
+        (k % 2 ? second_parse_now : first_parse_now)(table, table_len, input, input_len, out);
         double e = (now() - s) / input_len;
         best[k % 2] = e < best[k % 2] ? e : best[k % 2];
         if (out[0] != 0) {

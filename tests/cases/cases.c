@@ -20,11 +20,15 @@
        made                        the table made last, or
        table NUMBERS
        input NUMBERS
-       stack LENGTH, list LENGTH, limit STEPS
+       stack LENGTH, list LENGTH, second LENGTH, limit STEPS
+                                   without it the second area is as long as
+                                   the stack
        answer NUMBERS              number, steps, depth, listed, position,
                                    expected word, expected count; rest 0
        stacked NUMBERS, listed NUMBERS   the first places afterwards; places
-                                   behind them are as they were              */
+                                   behind them are as they were
+
+   The second area is looked at in every case.                               */
 
 #include <errno.h>
 #include <stdio.h>
@@ -36,7 +40,7 @@
 
 enum {
     TABLE = 32260, WORK = 8192, WORK2 = 16384,
-    LONGER = 100, FENCE = 16, MANY = 70000
+    LONGER = 100, FENCE = 16, MANY = 70000, NUMBERS = 47
 };
 
 static uint64_t values[MANY];
@@ -47,14 +51,14 @@ static uint64_t work[WORK + LONGER + FENCE];
 static uint32_t work2[WORK2 + LONGER + FENCE];
 static uint16_t given[MANY];
 static uint8_t input[MANY];
-static uint16_t stack[MANY], list[MANY];
-static size_t card_len, given_len, input_len, stack_len, list_len, areas[3];
+static uint16_t stack[MANY], list[MANY], second[MANY];
+static size_t card_len, given_len, input_len, stack_len, list_len, second_len, areas[3];
 static uint64_t limit;
 static uint64_t out[7];
-static int answered;
+static int answered, second_given;
 static char name[300], kind;
 static unsigned long makes, parses, failures, line_number;
-static unsigned long seen[45];
+static unsigned long seen[NUMBERS];
 
 /* Old contents, different from place to place and never 0. */
 static uint64_t old(size_t place) {
@@ -115,7 +119,7 @@ static void numbers16(uint16_t *into, size_t *length) {
 static void begin(char what, const char *title) {
     kind = what;
     snprintf(name, sizeof name, "%.299s", title);
-    answered = 0;
+    answered = second_given = 0;
     areas[0] = TABLE, areas[1] = WORK, areas[2] = WORK2;
     card_len = input_len = 0;
     stack_len = list_len = 100;
@@ -160,7 +164,7 @@ static void run_make(void) {
         out[i] = 99;
     sidumza_generate(card, card_len, table, areas[0], work, areas[1], work2, areas[2], out);
     makes++;
-    if (out[0] < 45)
+    if (out[0] < NUMBERS)
         seen[out[0]]++;
     compare_answer(5);
     int cleared = out[0] == 0 || out[0] > 10;
@@ -191,22 +195,34 @@ static void run_make(void) {
         }
 }
 
+/* After an end the second area is zero over its length; else no area is changed. */
+static void look_at_areas(void) {
+    int refused = out[SIDUMZA_DEPTH] == 0;
+    for (size_t i = 0; i < MANY; i++) {
+        if (refused && (stack[i] != (uint16_t)old(i) || list[i] != (uint16_t)old(i))) {
+            fail("an area changed at place", i);
+            return;
+        }
+        if (second[i] != (!refused && i < second_len ? 0 : (uint16_t)old(i))) {
+            fail("second area, place", i);
+            return;
+        }
+    }
+}
+
 static void run_parse(void) {
     for (size_t i = 0; i < MANY; i++)
-        stack[i] = list[i] = (uint16_t)old(i);
+        stack[i] = list[i] = second[i] = (uint16_t)old(i);
     for (size_t i = 0; i < 7; i++)
         out[i] = 99;
-    sidumza_parse(given, given_len, input, input_len, stack, stack_len, list, list_len, limit, out);
+    if (!second_given)
+        second_len = stack_len;
+    sidumza_parse(given, given_len, input, input_len, stack, stack_len, list, list_len, second, second_len, limit, out);
     parses++;
-    if (out[0] < 45)
+    if (out[0] < NUMBERS)
         seen[out[0]]++;
     compare_answer(7);
-    if ((out[0] > 20 && out[0] < 30) || out[0] == 44)
-        for (size_t i = 0; i < MANY; i++)
-            if (stack[i] != (uint16_t)old(i) || list[i] != (uint16_t)old(i)) {
-                fail("an area changed at place", i);
-                break;
-            }
+    look_at_areas();
 }
 
 /* The area begins with the numbers of the line and is as it was behind them. */
@@ -293,6 +309,9 @@ static void read_line(const char *line) {
         stack_len = (size_t)values[0];
     } else if (kind == 'p' && starts(line, "list", &rest) && count == 1) {
         list_len = (size_t)values[0];
+    } else if (kind == 'p' && starts(line, "second", &rest) && count == 1) {
+        second_len = (size_t)values[0];
+        second_given = 1;
     } else if (kind == 'p' && starts(line, "limit", &rest) && count == 1) {
         limit = values[0];
     } else if (kind == 'p' && answered && starts(line, "stacked", &rest)) {
@@ -318,8 +337,8 @@ int main(int argc, char **argv) {
             read_line(line);
     }
     fclose(file);
-    for (unsigned long number = 0; number < 45; number++) {
-        int wanted = number < 14 || (number > 20 && number < 28) || (number > 30 && number < 36) || number == 44;
+    for (unsigned long number = 0; number < NUMBERS; number++) {
+        int wanted = number < 14 || (number > 20 && number < 28) || (number > 30 && number < 36) || number > 43;
         if (wanted && seen[number] == 0) {
             printf("answer %lu was not seen\n", number);
             failures++;

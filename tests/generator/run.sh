@@ -88,10 +88,11 @@ comparisons_fail() {
         refused "$refusal" "$tests/bison/data/slow.txt" "$built/compare" &&
         refused '0,/^answer 0 5/s/^answer 0 5/answer 0 6/' "$tests/cases/cases.txt" "$built/cases" &&
         refused '0,/^entered 0/s/^entered 0 1/entered 0 2/' "$tests/cases/cases.txt" "$built/cases" &&
+        refused '0,/^answer 31 3 3 1 2 6 2/s/6 2$/4 1/' "$tests/cases/cases.txt" "$built/cases" &&
         refused "$cell" "$tests/bison/data/small.txt" python3 "$tests/cases/maketable.py" "$built/release/maketable" &&
         refused "$transition" "$tests/bison/data/small.txt" python3 "$tests/cases/maketable.py" "$built/release/maketable" &&
         refused "$refusal" "$tests/bison/data/slow.txt" python3 "$tests/cases/maketable.py" "$built/release/maketable" &&
-        echo "8 changed files found"
+        echo "9 changed files found"
 }
 
 all() {

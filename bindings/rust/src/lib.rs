@@ -15,7 +15,7 @@ mod words;
 
 pub use table::{entered, read_table, TableFault};
 
-/// Why a call is refused. A refusal changes neither area.
+/// Why a call is refused. A refusal changes no area.
 #[derive(Clone, Copy, Debug, PartialEq, Eq)]
 pub enum Refusal {
     /// 21: the table has under 4 numbers, or fewer than its sizes say.
@@ -35,6 +35,8 @@ pub enum Refusal {
     /// 44: an entering symbol that is at least T + N, or not 0 for state 0, or other than the column of a cell that
     /// names the state. It is tested between 24 and 25.
     BadEntered,
+    /// 45: the second area is shorter than the stack area.
+    SecondShort,
 }
 
 /// What a parse did until its end.
@@ -53,10 +55,10 @@ pub struct Counts {
 pub enum Answer {
     /// 0: the input is accepted.
     Accepted { counts: Counts },
-    /// 21 to 27 or 44.
+    /// 21 to 27, 44 or 45.
     Refused { refusal: Refusal },
-    /// 31: no action for the terminal at `position`. Bit m of `expected` is set for each expected
-    /// terminal m (0: the end), `expected_count` of them.
+    /// 31: no action for the terminal at `position`. Bit m of `expected` is set for each terminal m that can follow the
+    /// input before it (0: the end), `expected_count` of them.
     NoAction { position: usize, expected: u64, expected_count: u32, counts: Counts },
     /// 32: as many steps made as allowed.
     StepLimit { counts: Counts },
@@ -66,6 +68,9 @@ pub enum Answer {
     ListFull { counts: Counts },
     /// 35: a reduction that would pop state 0, or whose next state is 0.
     BadGoto { counts: Counts },
+    /// 46: no action for the terminal at `position`, as with 31, but what can follow is not known: a fresh reading
+    /// stopped on 32, 33 or 35. A larger step limit and a longer second area help, unless the table is at fault (35).
+    ExpectedUnknown { position: usize, counts: Counts },
 }
 
 #[cfg(feature = "parser")]
@@ -80,6 +85,8 @@ mod archive {
             stack_len: usize,
             list: *mut u16,
             list_len: usize,
+            second: *mut u16,
+            second_len: usize,
             step_limit: u64,
             out: *mut u64,
         );
@@ -91,19 +98,41 @@ mod archive {
 /// Parses `input` (a byte for each terminal, without the end marker) by `table`.
 ///
 /// After an end the used places of `stack` and `list` hold states and productions; popped places
-/// of `stack` are 0, and places never used are unchanged.
+/// of `stack` are 0, and places never used are unchanged. `second` is the stack of the fresh readings that find what can
+/// follow: at least as long as `stack`, else the call is refused, and all zero after every end. `input.len() + 2` places
+/// are enough where no production is empty; it is zeroed in every call, so lend no more than the input needs.
 ///
-/// `step_limit` is how many steps may be made. `(input.len() + list.len() + 1) as u64` are always enough; with
-/// `u64::MAX` [`Answer::StepLimit`] never comes.
+/// `step_limit` is how many steps may be made, by the reading and by each fresh reading. For the reading
+/// `(input.len() + list.len() + 1) as u64` are always enough; with `u64::MAX` [`Answer::StepLimit`] never comes. It is
+/// what bounds the time of a call: `bindings/c/sidumza.h` says more, and how long `second` should be where productions
+/// are empty ("What to lend").
+///
+/// To callers of the function without `second` (version 0.2):
+/// - Choose a step limit that you would wait for: the list's length no longer bounds the time of a call. This goes for all
+///   who passed `u64::MAX` or trusted the list, also with the maker's tables: by a card whose empty productions double a
+///   fresh reading may take longer than anyone would wait.
+/// - Lend `second`, behind `list`, with `input.len() + 2` places, or as many as `stack` has where that is more: so many are
+///   enough where no production is empty. Beside a stack of `input.len() + 1` places one as long as `stack` may be too
+///   short: then an input that is wrong at its end gets [`Answer::ExpectedUnknown`].
+/// - The expected set is now what truly can follow, and [`Answer::ExpectedUnknown`] may come in place of
+///   [`Answer::NoAction`]. Every other answer, the counts, `stack` and `list` are the same; the time of a call is not.
+/// - The archive must be the one that belongs to this crate (0.3.0): the linker does not notice an older one, which writes
+///   to memory that is not its own.
 ///
 /// To callers of the function whose `step_limit` was a `u32`: a number of 32 bits is passed as `u64::from(..)` and
 /// means what it meant, with the same answer and counts; whoever means no limit passes `u64::MAX` and not `u32::MAX`;
 /// [`Counts::steps`] is a `u64`, and a place that keeps it in 32 bits must be widened, or the count narrowed by hand
 /// where the limits stay below 2^32: no count passes its limit. The compiler finds these places, but for `as` casts,
-/// types that are inferred (`"..".parse()`, `to_le_bytes()`) and declarations of `sidumza_parse` by hand. The archive
-/// must be the one that belongs to this crate: an older one takes the lower half of the limit alone.
+/// types that are inferred (`"..".parse()`, `to_le_bytes()`) and declarations of `sidumza_parse` by hand.
 #[cfg(feature = "parser")]
-pub fn parse(table: &[u16], input: &[u8], stack: &mut [u16], list: &mut [u16], step_limit: u64) -> Answer {
+pub fn parse(
+    table: &[u16],
+    input: &[u8],
+    stack: &mut [u16],
+    list: &mut [u16],
+    second: &mut [u16],
+    step_limit: u64,
+) -> Answer {
     let mut out = [0u64; 7];
     // SAFETY: each pointer comes with the length of its slice, `out` has the seven places that are
     // written, and the borrows make the exclusive slices disjoint from all others.
@@ -117,6 +146,8 @@ pub fn parse(table: &[u16], input: &[u8], stack: &mut [u16], list: &mut [u16], s
             stack.len(),
             list.as_mut_ptr(),
             list.len(),
+            second.as_mut_ptr(),
+            second.len(),
             step_limit,
             out.as_mut_ptr(),
         );
@@ -155,11 +186,13 @@ fn answer(out: [u64; 7]) -> Answer {
         26 => refused(Refusal::BadTerminal),
         27 => refused(Refusal::NoStack),
         44 => refused(Refusal::BadEntered),
+        45 => refused(Refusal::SecondShort),
         31 => Answer::NoAction { position: out[4] as usize, expected: out[5], expected_count: out[6] as u32, counts },
         32 => Answer::StepLimit { counts },
         33 => Answer::StackFull { counts },
         34 => Answer::ListFull { counts },
         35 => Answer::BadGoto { counts },
+        46 => Answer::ExpectedUnknown { position: out[4] as usize, counts },
         n => unreachable!("the archive answers {n}: it is not the one that this crate was written for"),
     }
 }

@@ -4,7 +4,7 @@ use crate::{Answer, Refusal};
 use std::fmt;
 
 impl Refusal {
-    /// The number of the refusal, 21 to 27 or 44.
+    /// The number of the refusal, 21 to 27, 44 or 45.
     pub fn number(self) -> u32 {
         match self {
             Refusal::TableShort => 21,
@@ -15,6 +15,7 @@ impl Refusal {
             Refusal::BadTerminal => 26,
             Refusal::NoStack => 27,
             Refusal::BadEntered => 44,
+            Refusal::SecondShort => 45,
         }
     }
 }
@@ -30,6 +31,7 @@ impl fmt::Display for Refusal {
             Refusal::BadTerminal => "no such terminal",
             Refusal::NoStack => "no stack area",
             Refusal::BadEntered => "bad entering symbol in the table",
+            Refusal::SecondShort => "second stack area too short",
         };
         write!(f, "refused {}: {words}", self.number())
     }
@@ -38,7 +40,7 @@ impl fmt::Display for Refusal {
 impl std::error::Error for Refusal {}
 
 impl Answer {
-    /// The number of the answer: 0, 21 to 27, 31 to 35 or 44.
+    /// The number of the answer: 0, 21 to 27, 31 to 35 or 44 to 46.
     pub fn number(self) -> u32 {
         match self {
             Answer::Accepted { .. } => 0,
@@ -48,6 +50,7 @@ impl Answer {
             Answer::StackFull { .. } => 33,
             Answer::ListFull { .. } => 34,
             Answer::BadGoto { .. } => 35,
+            Answer::ExpectedUnknown { .. } => 46,
         }
     }
 }
@@ -60,6 +63,9 @@ impl fmt::Display for Answer {
             Answer::NoAction { position, expected, counts, .. } => {
                 write!(f, "wrong at {position}: steps {}, expected", counts.steps)?;
                 (0..64).filter(|m| expected >> m & 1 == 1).try_for_each(|m| write!(f, " {m}"))
+            }
+            Answer::ExpectedUnknown { position, counts } => {
+                write!(f, "wrong at {position}: steps {}, expected unknown (46)", counts.steps)
             }
             Answer::StepLimit { counts }
             | Answer::StackFull { counts }

@@ -105,7 +105,7 @@ fn states_have_their_entering_symbols() {
         assert!(entered(&table[..short]).is_empty(), "{short} numbers");
     }
     let mut stack = [0; 9];
-    let answer = parse(&table, &[2, 1, 2], &mut stack, &mut [0; 9], 9);
+    let answer = parse(&table, &[2, 1, 2], &mut stack, &mut [0; 9], &mut [0; 9], 9);
     let Answer::NoAction { counts, .. } = answer else { panic!("{answer}") };
     let read: Vec<u16> = stack[1..counts.depth].iter().map(|&q| entered(&table)[q as usize]).collect();
     assert_eq!(read, [3, 1]);
@@ -141,7 +141,7 @@ fn stored_cards_give_their_answers_and_tables_are_read_back() {
 fn answers_have_words() {
     let table = table_of(&numbers(CARD_A)).expect("a table");
     let said = |input: &[u8], stack: usize, list: usize, limit: u64| {
-        let answer = parse(&table, input, &mut vec![0; stack], &mut vec![0; list], limit);
+        let answer = parse(&table, input, &mut vec![0; stack], &mut vec![0; list], &mut vec![7; stack], limit);
         let _: &dyn std::error::Error = &answer;
         (answer.number(), answer.to_string())
     };
@@ -153,6 +153,9 @@ fn answers_have_words() {
         (said(&[2, 1], 9, 9, u64::MAX), 0, "accepted: steps 5, listed 2"),
         (said(&[2, 1], 2, 9, 9), 33, "stopped 33: steps 2, stack 2, listed 1"),
         (said(&[2, 1], 9, 1, 9), 34, "stopped 34: steps 3, stack 3, listed 1"),
+        (said(&[2, 2], 9, 9, 2), 46, "wrong at 1: steps 1, expected unknown (46)"),
+        (said(&[2, 2], 2, 9, 9), 46, "wrong at 1: steps 1, expected unknown (46)"),
+        (said(&[], 9, 9, 0), 46, "wrong at 0: steps 0, expected unknown (46)"),
         (said(&[9], 9, 9, 9), 26, "refused 26: no such terminal"),
         (said(&[2], 0, 9, 9), 27, "refused 27: no stack area"),
         (said(&[1; 65_536], 9, 9, 9), 25, "refused 25: input too long"),
@@ -160,7 +163,11 @@ fn answers_have_words() {
     for ((number, words), wanted, text) in all {
         assert_eq!((number, words.as_str()), (wanted, text));
     }
-    let foreign = |table: &[u16]| parse(table, &[], &mut [0; 9], &mut [0; 9], 9);
+}
+
+#[test]
+fn foreign_tables_have_words() {
+    let foreign = |table: &[u16]| parse(table, &[], &mut [0; 9], &mut [0; 9], &mut [0; 9], 9);
     for (table, number, words) in [
         (&[][..], 21, "refused 21: table too short"),
         (&[0, 1, 1, 1], 22, "refused 22: bad sizes in the table"),
@@ -168,6 +175,7 @@ fn answers_have_words() {
         (&[1, 1, 1, 1, 1, 1, 0, 1, 0], 24, "refused 24: bad cell in the table"),
         (&[1, 1, 1, 1, 1, 1, 1, 1024, 0], 44, "refused 44: bad entering symbol in the table"),
         (&[1, 1, 1, 1, 1, 1, 0, 1024, 0], 35, "stopped 35: steps 0, stack 1, listed 0"),
+        (&[1, 2, 1, 1, 2, 1, 0, 0, 1024, 0], 46, "wrong at 0: steps 0, expected unknown (46)"),
     ] {
         let answer = foreign(table);
         assert_eq!((answer.number(), answer.to_string().as_str()), (number, words));
@@ -176,4 +184,28 @@ fn answers_have_words() {
             let _: &dyn std::error::Error = &refusal;
         }
     }
+}
+
+#[test]
+fn what_can_follow_is_found_in_the_second_area() {
+    let table = table_of(&numbers(CARD_A)).expect("a table");
+    let read = |second: usize| {
+        let mut area = vec![7; second];
+        let answer = parse(&table, &[2, 2], &mut [7; 2], &mut [7; 9], &mut area, 9);
+        (answer.number(), area)
+    };
+    assert_eq!(read(1), (45, vec![7]));
+    assert_eq!(read(2), (46, vec![0; 2]));
+    assert_eq!(read(3), (31, vec![0; 3]));
+    assert_eq!(read(9), (31, vec![0; 9]));
+    let answer = parse(&table, &[2], &mut [7; 3], &mut [7; 9], &mut [7; 2], 9);
+    assert_eq!(answer.to_string(), "refused 45: second stack area too short");
+    // S -> 1 S 2 | 1: after 1 1 the row has 2 alone, and 1 can follow, too.
+    let nested = table_of(&numbers("3 1 2 4 3 3 3 1 1 3 2 1")).expect("a table");
+    let answer = parse(&nested, &[1, 1], &mut [7; 9], &mut [7; 9], &mut [7; 9], 99);
+    assert_eq!(answer.to_string(), "wrong at 2: steps 3, expected 1 2");
+    // S -> A A, A -> 1: behind 1 the row has a reduction for 0, but 1 is no sentence.
+    let pair = table_of(&numbers("3 2 2 3 4 3 1 2 1 4 4")).expect("a table");
+    let answer = parse(&pair, &[1, 2], &mut [7; 9], &mut [7; 9], &mut [7; 9], 99);
+    assert_eq!(answer.to_string(), "wrong at 1: steps 1, expected 1");
 }

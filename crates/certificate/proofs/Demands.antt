@@ -1,11 +1,13 @@
 -- The three demands, as theorems about the definitions that the contracts of the entry points cite: `generated` (the maker: generate, sidumza_generate)
 -- and `reading` (the reader: parse, sidumza_parse). A terminal is the papers' mark, an input their line, a step limit their allowance.
-use Prim.Native.Nat.{ℕ}
+use Prim.Native.Nat.{ℕ, _<_}
 use mathlib.Core.Path.{_≡_, refl}
 use mathlib.Core.List.{List, [], _∷_, map}
 use lib.ListN.{length}
+use Rattle.grammar.specs.Grammar.{Symbols}
 use Rattle.grammar.specs.Card.{formFault, grammarOf}
 use Rattle.machine.specs.Checks.{refusalOf}
+use Rattle.machine.specs.Exploration.{Explored}
 use Rattle.machine.specs.Report.{Reading}
 use Rattle.machine.specs.Faithful.{Faithful}
 use Rattle.machine.specs.Reads.{Reads}
@@ -20,7 +22,7 @@ use Rattle.lalr.proofs.Generates.{generates, only-generated}
 use Rattle.lalr.proofs.AnswerLaws.{made-by-number}
 use Rattle.claim.specs.Claim.{Demand3}
 use Rattle.certificate.specs.Rows.{Row, rows, stated, computed}
-use Rattle.certificate.proofs.Demand.{across}
+use Rattle.certificate.proofs.Demand.{across, fresh-across}
 use Rattle.certificate.proofs.Starred.{starred}
 
 -- "1. Maker and reader give a fixed, stated answer for all contents and lengths of what they are handed: a result or one numbered refusal, with the state
@@ -32,12 +34,12 @@ demand-1-maker t z w c = generates t z w c
 pub only-maker : (t z w c : List ℕ) (out : Generated) → Generates t z w c out → out ≡ generated t z w c
 only-maker t z w c out g = only-generated t z w c out g
 
--- The reader is handed a table t, an input, a stack area, a list area and a step limit: `Reads` says what it answers and leaves, and nothing else meets that
-pub demand-1-reader : (t input stack list : List ℕ) (limit : ℕ) → Reads t input stack list limit (reading t input stack list limit)
-demand-1-reader t input stack list limit = reads-exactly t input stack list limit (reading t input stack list limit) .1 refl
+-- The reader is handed a table t, an input, a stack area, a list area, a second stack area and a step limit: `Reads` says what it answers and leaves, and nothing else meets that
+pub demand-1-reader : (t input stack list second : List ℕ) (limit : ℕ) → Reads t input stack list second limit (reading t input stack list second limit)
+demand-1-reader t input stack list second limit = reads-exactly t input stack list second limit (reading t input stack list second limit) .1 refl
 
-pub only-reader : (t input stack list : List ℕ) (limit : ℕ) (r : Reading) → Reads t input stack list limit r → r ≡ reading t input stack list limit
-only-reader t input stack list limit r d = reads-exactly t input stack list limit r .0 d
+pub only-reader : (t input stack list second : List ℕ) (limit : ℕ) (r : Reading) → Reads t input stack list second limit r → r ≡ reading t input stack list second limit
+only-reader t input stack list second limit r d = reads-exactly t input stack list second limit r .0 d
 
 -- "2. The table made equals, cell for cell, the one defined by canonical LR(1) item sets merged by core, or is refused as a conflict exactly when two
 -- actions meet in a cell, the first such cell named."
@@ -46,17 +48,22 @@ pub demand-2-maker : (t z w c : List ℕ) → Room t z w → formFault c ≡ 0 �
 demand-2-maker t z w c o h = demand-2 t z w c o h
 
 -- "The reader makes the moves of the LR machine on every table that passes the check, and its count is their number."
-pub demand-2-reader : (t input stack list : List ℕ) (limit : ℕ) → refusalOf t input (length stack) ≡ 0 → Faithful t input stack list limit (reading t input stack list limit)
-demand-2-reader t input stack list limit e = faithful t input stack list limit e
+pub demand-2-reader : (t input stack list second : List ℕ) (limit : ℕ) → refusalOf t input (length stack) (length second) ≡ 0 → Faithful t input stack list second limit (reading t input stack list second limit)
+demand-2-reader t input stack list second limit e = faithful t input stack list second limit e
 
 -- "3. For every accepted grammar and every line, allowance and areas: if the reader, with that table as the maker left it, takes the line and does not run
 -- out of moves, stack or list, it accepts exactly when the grammar derives the line; the rules it lists, backwards, are a rightmost derivation and its only
 -- one; where it does not accept, it names the first place where the marks so far, that one included, begin no sentence, or the end exactly when the whole
--- line begins one and is none."
+-- line begins one and is none." With it, of 31, card 5's sentence on the offer; 46, in place of 31, names the place as 31 does.
 -- The maker accepts a card where the number of its answer is 0
-pub demand-3 : (t z w c : List ℕ) → numbersOf (generated t z w c .answer) ≡ 0 ∷ [] → (input stack list : List ℕ) (limit : ℕ)
-    → Demand3 (grammarOf c) input (reading (generated t z w c .table) input stack list limit)
-demand-3 t z w c e input stack list limit = across t z w c (made-by-number t z w c e) input stack list limit
+pub demand-3 : (t z w c : List ℕ) → numbersOf (generated t z w c .answer) ≡ 0 ∷ [] → (input stack list second : List ℕ) (limit : ℕ)
+    → Demand3 (grammarOf c) input (reading (generated t z w c .table) input stack list second limit)
+demand-3 t z w c e input stack list second limit = across t z w c (made-by-number t z w c e) input stack list second limit
+
+-- "With the maker's table 35 never comes", in a fresh reading neither: then 46 comes of 32 or 33 alone
+pub fresh-unbroken : (t z w c : List ℕ) → numbersOf (generated t z w c .answer) ≡ 0 ∷ [] → (line : List ℕ) → Symbols (grammarOf c .terminals) line → (limit second m : ℕ) → m < grammarOf c .terminals
+    → Explored (generated t z w c .table) limit second line m 35 → ⊥
+fresh-unbroken t z w c e line s limit second m h = fresh-across t z w c (made-by-number t z w c e) line s limit second m h
 
 -- "Starred ones are shown to follow from the definitions, as rows of a common table covered by one theorem."
 pub starred-rows : map (λ (r : Row). computed (r .card) (r .lines)) rows ≡ map (λ (r : Row). stated (r .answer) (r .lines)) rows

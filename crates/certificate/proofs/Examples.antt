@@ -8,15 +8,15 @@ use lib.Count.{ones, onesIn}
 use Rattle.sets.specs.Bit.{bit}
 use Rattle.sets.specs.Tests.{allBelow, between}
 use Rattle.grammar.specs.Grammar.{Sentence, Rightmost}
-use Rattle.grammar.specs.Prefix.{ErrorPosition}
+use Rattle.grammar.specs.Prefix.{Begins, ErrorPosition}
 use Rattle.grammar.specs.Card
 use Rattle.grammar.specs.Card.{grammarOf, symbols, symbolOf, startOf, rightOf, isNonterminal, isSymbol, leftsOk, rightsOk, formFault}
 use Rattle.tables.specs.Layout
 use Rattle.tables.specs.Layout.{width, enteredOf, cellOf, sizeOf, build}
-use Rattle.machine.specs.Report.{ended, wrong-at, Reading}
-use Rattle.machine.specs.ComputedRun.{popped, topOf, actionOf, shifted, reducedTo, reduced, movedBy, after, run, start, expectedWord, wrongAt, reportOf, reading}
+use Rattle.machine.specs.Report.{ended, wrong-at}
+use Rattle.machine.specs.ComputedRun.{popped, topOf, actionOf, shifted, reducedTo, reduced, movedBy, after, run, start, fresh, freshNumber, decided, wordOf, expectedWord, expectedAt, unknownAt, wrongAt, reportOf, readingOf, reading}
 use Rattle.machine.specs.Checks
-use Rattle.machine.specs.Checks.{productionOk, terminalCellOk, cellOk, rowOk, productionsOk, cellsOk, entryOk, namesOk, rowNamesOk, entriesOk, terminalOk, inputOk, tableRefusal, inputRefusal, areaRefusal, refusalOf, Refusal, of-table, table-short, sizes-wrong, production-wrong, cell-wrong, entry-wrong, input-long, terminal-wrong, no-stack}
+use Rattle.machine.specs.Checks.{productionOk, terminalCellOk, cellOk, rowOk, productionsOk, cellsOk, entryOk, namesOk, rowNamesOk, entriesOk, terminalOk, inputOk, tableRefusal, inputRefusal, areaRefusal, refusalOf, Refusal, of-table, table-short, sizes-wrong, production-wrong, cell-wrong, entry-wrong, input-long, terminal-wrong, no-stack, second-short}
 use Rattle.claim.specs.Claim.{Demand3, Settled}
 use Rattle.lalr.specs.ComputedNonterminals.{nullables, productive, reachable, uselessNonterminal, firsts}
 use Rattle.lalr.specs.ComputedStates
@@ -30,10 +30,6 @@ a-made : cardAnswer cardA ≡ made
 unfolding bit allBelow between Card.terminals Card.nonterminals Card.productions symbols Card.leftOf Card.lengthOf symbolOf startOf rightOf Card.sizesOk isNonterminal isSymbol leftsOk rightsOk formFault nullables productive reachable uselessNonterminal firsts ComputedStates.states facts closure advance goto ComputedStates.start
 a-made = refl
 
--- with one place behind the table, stack and list areas of 4 and 2 places, 5 steps
-abbrev read : List ℕ → Reading
-read input = reading (tableOf cardA ++ 0 ∷ []) input (9 ∷ 9 ∷ 9 ∷ 9 ∷ []) (9 ∷ 9 ∷ []) 5
-
 -- 0 and 31 are no refusals
 taken : {n : ℕ} → Refusal n → (0 < n) × (n ≢ 31)
 taken (of-table table-short) = (omega arith, λ e. omega arith)
@@ -44,14 +40,16 @@ taken (of-table entry-wrong) = (omega arith, λ e. omega arith)
 taken input-long = (omega arith, λ e. omega arith)
 taken terminal-wrong = (omega arith, λ e. omega arith)
 taken no-stack = (omega arith, λ e. omega arith)
+taken second-short = (omega arith, λ e. omega arith)
 
 settled : {n : ℕ} → (n ≡ 0) ⊎ (n ≡ 31) → Settled n
 settled (inl e) = record { taken = λ h. omega (arith, taken h .0); steps-left = λ z. omega arith; stack-left = λ z. omega arith; list-left = λ z. omega arith }
 settled (inr e) = record { taken = λ h. taken h .1 e; steps-left = λ z. omega arith; stack-left = λ z. omega arith; list-left = λ z. omega arith }
 
-good-claim : Demand3 (grammarOf cardA) (2 ∷ 1 ∷ []) (record { report = ended 0 5 2 2; stack = 0 ∷ 2 ∷ 0 ∷ 9 ∷ []; list = 1 ∷ 0 ∷ [] })
-unfolding bit allBelow between Card.terminals Card.nonterminals Card.productions symbols Card.leftOf Card.lengthOf symbolOf startOf rightOf nullables productive reachable uselessNonterminal firsts ComputedStates.states facts closure advance goto ComputedStates.start tableOf build Layout.states Layout.terminals Layout.nonterminals Layout.productions width Layout.leftOf Layout.lengthOf enteredOf cellOf sizeOf popped topOf actionOf shifted reducedTo reduced movedBy after run start ones onesIn expectedWord wrongAt reportOf Checks.sizesOk productionOk terminalCellOk cellOk rowOk productionsOk cellsOk entryOk namesOk rowNamesOk entriesOk terminalOk inputOk tableRefusal inputRefusal areaRefusal refusalOf reading
-good-claim = demand-3 cardA a-made (0 ∷ []) (2 ∷ 1 ∷ []) (9 ∷ 9 ∷ 9 ∷ 9 ∷ []) (9 ∷ 9 ∷ []) 5
+-- with one place behind the table, stack, list and second areas of 4, 2 and 4 places, 5 steps
+good-claim : Demand3 (grammarOf cardA) (2 ∷ 1 ∷ []) (record { report = ended 0 5 2 2; stack = 0 ∷ 2 ∷ 0 ∷ 9 ∷ []; list = 1 ∷ 0 ∷ []; second = 0 ∷ 0 ∷ 0 ∷ 0 ∷ [] })
+unfolding bit allBelow between Card.terminals Card.nonterminals Card.productions symbols Card.leftOf Card.lengthOf symbolOf startOf rightOf nullables productive reachable uselessNonterminal firsts ComputedStates.states facts closure advance goto ComputedStates.start tableOf build Layout.states Layout.terminals Layout.nonterminals Layout.productions width Layout.leftOf Layout.lengthOf enteredOf cellOf sizeOf popped topOf actionOf shifted reducedTo reduced movedBy after run start ones onesIn fresh freshNumber decided wordOf expectedWord expectedAt unknownAt wrongAt reportOf readingOf Checks.sizesOk productionOk terminalCellOk cellOk rowOk productionsOk cellsOk entryOk namesOk rowNamesOk entriesOk terminalOk inputOk tableRefusal inputRefusal areaRefusal refusalOf reading
+good-claim = demand-3 cardA a-made (0 ∷ []) (2 ∷ 1 ∷ []) (9 ∷ 9 ∷ 9 ∷ 9 ∷ []) (9 ∷ 9 ∷ []) (9 ∷ 9 ∷ 9 ∷ 9 ∷ []) 5
 
 -- 2 1 is a sentence, and its one rightmost derivation is by the productions 0 1
 pub good-sentence : Sentence (grammarOf cardA) (2 ∷ 1 ∷ [])
@@ -61,10 +59,15 @@ pub good-derivation : Rightmost (grammarOf cardA) (3 ∷ []) (0 ∷ 1 ∷ []) (2
 unfolding Card.terminals
 good-derivation = good-claim .derivation refl
 
-bad-claim : Demand3 (grammarOf cardA) (2 ∷ 2 ∷ []) (record { report = wrong-at 1 2 0 1 3 2; stack = 0 ∷ 1 ∷ 9 ∷ 9 ∷ []; list = 9 ∷ 9 ∷ [] })
-unfolding bit allBelow between Card.terminals Card.nonterminals Card.productions symbols Card.leftOf Card.lengthOf symbolOf startOf rightOf nullables productive reachable uselessNonterminal firsts ComputedStates.states facts closure advance goto ComputedStates.start tableOf build Layout.states Layout.terminals Layout.nonterminals Layout.productions width Layout.leftOf Layout.lengthOf enteredOf cellOf sizeOf popped topOf actionOf shifted reducedTo reduced movedBy after run start ones onesIn expectedWord wrongAt reportOf Checks.sizesOk productionOk terminalCellOk cellOk rowOk productionsOk cellsOk entryOk namesOk rowNamesOk entriesOk terminalOk inputOk tableRefusal inputRefusal areaRefusal refusalOf reading
-bad-claim = demand-3 cardA a-made (0 ∷ []) (2 ∷ 2 ∷ []) (9 ∷ 9 ∷ 9 ∷ 9 ∷ []) (9 ∷ 9 ∷ []) 5
+bad-claim : Demand3 (grammarOf cardA) (2 ∷ 2 ∷ []) (record { report = wrong-at 1 2 0 1 3 2; stack = 0 ∷ 1 ∷ 9 ∷ 9 ∷ []; list = 9 ∷ 9 ∷ []; second = 0 ∷ 0 ∷ 0 ∷ 0 ∷ [] })
+unfolding bit allBelow between Card.terminals Card.nonterminals Card.productions symbols Card.leftOf Card.lengthOf symbolOf startOf rightOf nullables productive reachable uselessNonterminal firsts ComputedStates.states facts closure advance goto ComputedStates.start tableOf build Layout.states Layout.terminals Layout.nonterminals Layout.productions width Layout.leftOf Layout.lengthOf enteredOf cellOf sizeOf popped topOf actionOf shifted reducedTo reduced movedBy after run start ones onesIn fresh freshNumber decided wordOf expectedWord expectedAt unknownAt wrongAt reportOf readingOf Checks.sizesOk productionOk terminalCellOk cellOk rowOk productionsOk cellsOk entryOk namesOk rowNamesOk entriesOk terminalOk inputOk tableRefusal inputRefusal areaRefusal refusalOf reading
+bad-claim = demand-3 cardA a-made (0 ∷ []) (2 ∷ 2 ∷ []) (9 ∷ 9 ∷ 9 ∷ 9 ∷ []) (9 ∷ 9 ∷ []) (9 ∷ 9 ∷ 9 ∷ 9 ∷ []) 5
 
 -- 2 2 goes wrong at its second terminal
 pub bad-position : ErrorPosition (grammarOf cardA) (2 ∷ 2 ∷ []) 1
 bad-position = bad-claim .names-position (settled (inr refl)) (λ e. omega arith) .1
+
+-- behind 2 the offer has 1 and the end: 2 1 begins a sentence, and 2 is one
+pub bad-offer : Begins (grammarOf cardA) (2 ∷ 1 ∷ []) × Sentence (grammarOf cardA) (2 ∷ [])
+unfolding bit
+bad-offer = let o = bad-claim .offers refl in (o .followers 1 (λ e. omega arith) .0 refl, o .end .0 refl)

@@ -1,4 +1,4 @@
--- The starred cards and lines of 01, and the grammars of "Misreadings to rule out", as rows of one table: what each must give.
+-- The starred cards and lines of 01, the grammars of "Misreadings to rule out", and lines for card 5 of 02, as rows of one table: what each must give.
 use mathlib.Core.List.{List, [], _∷_, _++_, map}
 use Prim.Native.Nat.{ℕ}
 use lib.ListN.{replicate, take}
@@ -37,21 +37,31 @@ cardG = 6 ∷ 3 ∷ 6 ∷ 14 ∷ 6 ∷ 6 ∷ 6 ∷ 6 ∷ 7 ∷ 8 ∷ 3 ∷ 3 ∷
 abbrev pub cardH : List ℕ
 cardH = 6 ∷ 3 ∷ 6 ∷ 14 ∷ 6 ∷ 6 ∷ 6 ∷ 6 ∷ 7 ∷ 8 ∷ 3 ∷ 3 ∷ 3 ∷ 3 ∷ 1 ∷ 1 ∷ 1 ∷ 7 ∷ 4 ∷ 2 ∷ 8 ∷ 4 ∷ 1 ∷ 8 ∷ 5 ∷ 2 ∷ 7 ∷ 5 ∷ 3 ∷ 3 ∷ []
 
+-- card 5, "a fitting mark is missing": S → 1 S 2, S → 1; the row of the state before the wrong terminal of 1 1 has 2 alone, and 1 can follow, too
+abbrev pub cardI : List ℕ
+cardI = 3 ∷ 1 ∷ 2 ∷ 4 ∷ 3 ∷ 3 ∷ 3 ∷ 1 ∷ 1 ∷ 3 ∷ 2 ∷ 1 ∷ []
+
+-- card 5, "the mark offered is then refused": S → A A, A → 1; the row before the wrong terminal of 1 2 has a reduction under 0, and 1 is no sentence
+abbrev pub cardJ : List ℕ
+cardJ = 3 ∷ 2 ∷ 2 ∷ 3 ∷ 4 ∷ 3 ∷ 1 ∷ 2 ∷ 1 ∷ 4 ∷ 4 ∷ []
+
 -- what the maker answers: a table, as it is printed (sizes, left sides, lengths, entering symbols, rows), or the numbers of a refusal
 pub data Answer : Type 0 where
   table : (sizes left length entered : List ℕ) → (rows : List (List ℕ)) → Answer
   refused : List ℕ → Answer
 
--- a line read with the card's table: the input, stack and list areas of so many places, each of which holds 9, and the step limit; then the numbers of
--- the answer (number, steps, stack places in use, productions listed; for 31 the position, the expected set and its size) and both areas
+-- a line read with the card's table: the input, stack area, list area and second stack area of so many places, each of which holds 9, and the step limit; then
+-- the numbers of the answer (number, steps, stack places in use, productions listed; for 31 and 46 the position, the expected set and its size) and the areas
 pub record Line : Type 0 where
   pub input : List ℕ
   pub stack : ℕ
   pub list : ℕ
+  pub second : ℕ
   pub limit : ℕ
   pub numbers : List ℕ
   pub stack-left : List ℕ
   pub list-left : List ℕ
+  pub second-left : List ℕ
 
 pub record Row : Type 0 where
   pub card : List ℕ
@@ -69,12 +79,19 @@ rows =
           (1024 ∷ 1024 ∷ 0 ∷ 0 ∷ []) ∷
           []);
       lines =
-          record { input = 2 ∷ 1 ∷ []; stack = 4; list = 2; limit = 5; numbers = 0 ∷ 5 ∷ 2 ∷ 2 ∷ []; stack-left = 0 ∷ 2 ∷ 0 ∷ 9 ∷ []; list-left = 1 ∷ 0 ∷ [] } ∷
-          record { input = 2 ∷ 1 ∷ []; stack = 4; list = 2; limit = 4; numbers = 32 ∷ 4 ∷ 2 ∷ 2 ∷ []; stack-left = 0 ∷ 2 ∷ 0 ∷ 9 ∷ []; list-left = 1 ∷ 0 ∷ [] } ∷
-          record { input = 2 ∷ 1 ∷ []; stack = 2; list = 2; limit = 100; numbers = 33 ∷ 2 ∷ 2 ∷ 1 ∷ []; stack-left = 0 ∷ 2 ∷ []; list-left = 1 ∷ 9 ∷ [] } ∷
-          record { input = 2 ∷ 1 ∷ []; stack = 4; list = 1; limit = 100; numbers = 34 ∷ 3 ∷ 3 ∷ 1 ∷ []; stack-left = 0 ∷ 2 ∷ 3 ∷ 9 ∷ []; list-left = 1 ∷ [] } ∷
-          record { input = []; stack = 4; list = 0; limit = 100; numbers = 31 ∷ 0 ∷ 1 ∷ 0 ∷ 0 ∷ 4 ∷ 1 ∷ []; stack-left = 0 ∷ 9 ∷ 9 ∷ 9 ∷ []; list-left = [] } ∷
-          record { input = 2 ∷ 2 ∷ []; stack = 4; list = 1; limit = 100; numbers = 31 ∷ 1 ∷ 2 ∷ 0 ∷ 1 ∷ 3 ∷ 2 ∷ []; stack-left = 0 ∷ 1 ∷ 9 ∷ 9 ∷ []; list-left = 9 ∷ [] } ∷
+          record { input = 2 ∷ 1 ∷ []; stack = 4; list = 2; second = 4; limit = 5; numbers = 0 ∷ 5 ∷ 2 ∷ 2 ∷ []; stack-left = 0 ∷ 2 ∷ 0 ∷ 9 ∷ []; list-left = 1 ∷ 0 ∷ []; second-left = 0 ∷ 0 ∷ 0 ∷ 0 ∷ [] } ∷
+          record { input = 2 ∷ 1 ∷ []; stack = 4; list = 2; second = 4; limit = 4; numbers = 32 ∷ 4 ∷ 2 ∷ 2 ∷ []; stack-left = 0 ∷ 2 ∷ 0 ∷ 9 ∷ []; list-left = 1 ∷ 0 ∷ []; second-left = 0 ∷ 0 ∷ 0 ∷ 0 ∷ [] } ∷
+          record { input = 2 ∷ 1 ∷ []; stack = 2; list = 2; second = 2; limit = 100; numbers = 33 ∷ 2 ∷ 2 ∷ 1 ∷ []; stack-left = 0 ∷ 2 ∷ []; list-left = 1 ∷ 9 ∷ []; second-left = 0 ∷ 0 ∷ [] } ∷
+          record { input = 2 ∷ 1 ∷ []; stack = 4; list = 1; second = 4; limit = 100; numbers = 34 ∷ 3 ∷ 3 ∷ 1 ∷ []; stack-left = 0 ∷ 2 ∷ 3 ∷ 9 ∷ []; list-left = 1 ∷ []; second-left = 0 ∷ 0 ∷ 0 ∷ 0 ∷ [] } ∷
+          record { input = []; stack = 4; list = 0; second = 4; limit = 100; numbers = 31 ∷ 0 ∷ 1 ∷ 0 ∷ 0 ∷ 4 ∷ 1 ∷ []; stack-left = 0 ∷ 9 ∷ 9 ∷ 9 ∷ []; list-left = []; second-left = 0 ∷ 0 ∷ 0 ∷ 0 ∷ [] } ∷
+          record { input = 2 ∷ 2 ∷ []; stack = 4; list = 1; second = 4; limit = 100; numbers = 31 ∷ 1 ∷ 2 ∷ 0 ∷ 1 ∷ 3 ∷ 2 ∷ []; stack-left = 0 ∷ 1 ∷ 9 ∷ 9 ∷ []; list-left = 9 ∷ []; second-left = 0 ∷ 0 ∷ 0 ∷ 0 ∷ [] } ∷
+          -- card 5: the steps and places that the fresh readings need
+          record { input = 2 ∷ 2 ∷ []; stack = 4; list = 1; second = 4; limit = 3; numbers = 31 ∷ 1 ∷ 2 ∷ 0 ∷ 1 ∷ 3 ∷ 2 ∷ []; stack-left = 0 ∷ 1 ∷ 9 ∷ 9 ∷ []; list-left = 9 ∷ []; second-left = 0 ∷ 0 ∷ 0 ∷ 0 ∷ [] } ∷
+          record { input = 2 ∷ 2 ∷ []; stack = 4; list = 1; second = 4; limit = 2; numbers = 46 ∷ 1 ∷ 2 ∷ 0 ∷ 1 ∷ 0 ∷ 0 ∷ []; stack-left = 0 ∷ 1 ∷ 9 ∷ 9 ∷ []; list-left = 9 ∷ []; second-left = 0 ∷ 0 ∷ 0 ∷ 0 ∷ [] } ∷
+          record { input = 2 ∷ 2 ∷ []; stack = 2; list = 1; second = 2; limit = 100; numbers = 46 ∷ 1 ∷ 2 ∷ 0 ∷ 1 ∷ 0 ∷ 0 ∷ []; stack-left = 0 ∷ 1 ∷ []; list-left = 9 ∷ []; second-left = 0 ∷ 0 ∷ [] } ∷
+          record { input = 2 ∷ 2 ∷ []; stack = 2; list = 1; second = 3; limit = 100; numbers = 31 ∷ 1 ∷ 2 ∷ 0 ∷ 1 ∷ 3 ∷ 2 ∷ []; stack-left = 0 ∷ 1 ∷ []; list-left = 9 ∷ []; second-left = 0 ∷ 0 ∷ 0 ∷ [] } ∷
+          record { input = []; stack = 4; list = 0; second = 4; limit = 0; numbers = 46 ∷ 0 ∷ 1 ∷ 0 ∷ 0 ∷ 0 ∷ 0 ∷ []; stack-left = 0 ∷ 9 ∷ 9 ∷ 9 ∷ []; list-left = []; second-left = 0 ∷ 0 ∷ 0 ∷ 0 ∷ [] } ∷
+          record { input = 2 ∷ 2 ∷ []; stack = 2; list = 1; second = 1; limit = 100; numbers = 45 ∷ []; stack-left = 9 ∷ 9 ∷ []; list-left = 9 ∷ []; second-left = 9 ∷ [] } ∷
           [];
     } ∷
     record {
@@ -84,7 +101,33 @@ rows =
           (4096 ∷ 0 ∷ []) ∷
           []);
       lines =
-          record { input = []; stack = 4; list = 1; limit = 100; numbers = 0 ∷ 2 ∷ 2 ∷ 1 ∷ []; stack-left = 0 ∷ 1 ∷ 9 ∷ 9 ∷ []; list-left = 0 ∷ [] } ∷
+          record { input = []; stack = 4; list = 1; second = 4; limit = 100; numbers = 0 ∷ 2 ∷ 2 ∷ 1 ∷ []; stack-left = 0 ∷ 1 ∷ 9 ∷ 9 ∷ []; list-left = 0 ∷ []; second-left = 0 ∷ 0 ∷ 0 ∷ 0 ∷ [] } ∷
+          [];
+    } ∷
+    record {
+      card = cardI;
+      answer = table (5 ∷ 3 ∷ 1 ∷ 2 ∷ []) (3 ∷ 3 ∷ []) (3 ∷ 1 ∷ []) (0 ∷ 1 ∷ 3 ∷ 3 ∷ 2 ∷ []) (
+          (0 ∷ 1 ∷ 0 ∷ 2 ∷ []) ∷
+          (1025 ∷ 1 ∷ 1025 ∷ 3 ∷ []) ∷
+          (4096 ∷ 0 ∷ 0 ∷ 0 ∷ []) ∷
+          (0 ∷ 0 ∷ 4 ∷ 0 ∷ []) ∷
+          (1024 ∷ 0 ∷ 1024 ∷ 0 ∷ []) ∷
+          []);
+      lines =
+          record { input = 1 ∷ 1 ∷ []; stack = 5; list = 3; second = 5; limit = 100; numbers = 31 ∷ 3 ∷ 3 ∷ 1 ∷ 2 ∷ 6 ∷ 2 ∷ []; stack-left = 0 ∷ 1 ∷ 3 ∷ 9 ∷ 9 ∷ []; list-left = 1 ∷ 9 ∷ 9 ∷ []; second-left = 0 ∷ 0 ∷ 0 ∷ 0 ∷ 0 ∷ [] } ∷
+          [];
+    } ∷
+    record {
+      card = cardJ;
+      answer = table (5 ∷ 3 ∷ 2 ∷ 2 ∷ []) (4 ∷ 3 ∷ []) (1 ∷ 2 ∷ []) (0 ∷ 1 ∷ 3 ∷ 4 ∷ 4 ∷ []) (
+          (0 ∷ 1 ∷ 0 ∷ 2 ∷ 3 ∷ []) ∷
+          (1024 ∷ 1024 ∷ 0 ∷ 0 ∷ 0 ∷ []) ∷
+          (4096 ∷ 0 ∷ 0 ∷ 0 ∷ 0 ∷ []) ∷
+          (0 ∷ 1 ∷ 0 ∷ 0 ∷ 4 ∷ []) ∷
+          (1025 ∷ 0 ∷ 0 ∷ 0 ∷ 0 ∷ []) ∷
+          []);
+      lines =
+          record { input = 1 ∷ 2 ∷ []; stack = 5; list = 3; second = 5; limit = 100; numbers = 31 ∷ 1 ∷ 2 ∷ 0 ∷ 1 ∷ 2 ∷ 1 ∷ []; stack-left = 0 ∷ 1 ∷ 9 ∷ 9 ∷ 9 ∷ []; list-left = 9 ∷ 9 ∷ 9 ∷ []; second-left = 0 ∷ 0 ∷ 0 ∷ 0 ∷ 0 ∷ [] } ∷
           [];
     } ∷
     record {
@@ -164,8 +207,8 @@ inFront (lalr.conflict q m v w) t = []
 
 abbrev pub readLine : List ℕ → Line → Line
 readLine t l =
-    let r = reading t (l .input) (replicate (l .stack) 9) (replicate (l .list) 9) (l .limit) in
-    record { input = l .input; stack = l .stack; list = l .list; limit = l .limit; numbers = report.numbersOf (r .report); stack-left = r .stack; list-left = r .list }
+    let r = reading t (l .input) (replicate (l .stack) 9) (replicate (l .list) 9) (replicate (l .second) 9) (l .limit) in
+    record { input = l .input; stack = l .stack; list = l .list; second = l .second; limit = l .limit; numbers = report.numbersOf (r .report); stack-left = r .stack; list-left = r .list; second-left = r .second }
 
 -- with areas of just the lengths that the maker asks for; lines are read with the table area as the maker left it
 abbrev pub computed : List ℕ → List Line → Result

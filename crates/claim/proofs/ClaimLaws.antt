@@ -1,121 +1,126 @@
 -- Demand 3 for the reader, proved for every table that means the grammar.
-use Prim.Native.Nat.{ℕ, suc, _+_}
+use Prim.Native.Nat.{ℕ, _<_}
 use mathlib.Core.Path.{_≡_, refl, sym, ap, _∙_}
-use mathlib.Core.Logic.{_≢_, _↔_}
-use mathlib.Core.List.{List, [], _∷_, reverse}
-use lib.ListN.{length, drop, take, take-append-drop}
+use mathlib.Core.Logic.{_≢_, _⊎_, inl, inr, ⊎-elim}
+use mathlib.Core.List.{List, [], _∷_, _++_}
+use lib.ListN.{length, take}
+use lib.Seq.{take-at}
 use native.Mathlib.Omega.{arith}
-use Rattle.grammar.specs.Grammar.{Grammar, Formed, Symbols, Sentence, Rightmost}
-use Rattle.lr.proofs.Runs
-use Rattle.lr.proofs.Canonical.{start-viable}
-use Rattle.lr.specs.Items
+use Rattle.grammar.specs.Grammar.{Grammar, Formed, Symbols, none, more, Sentence}
 use Rattle.lr.proofs.ItemLaws.{AllProductive}
-use Rattle.lr.proofs.MachineLaws.{accepted, refused}
-use Rattle.lr.proofs.ErrorPosition.{Begins, ErrorPosition, at-terminal, at-end, place-of, begins-front}
-use Rattle.machine.specs.Checks.{refusalOf, TableRefusal, Refusal, input-long, terminal-wrong, no-stack}
+use Rattle.lr.proofs.ErrorPosition.{ErrorPosition}
+use Rattle.sets.specs.Bit.{bit, count}
+use Rattle.machine.specs.Checks.{refusalOf, TableRefusal, Refusal, input-long, terminal-wrong, no-stack, second-short}
 use Rattle.machine.specs.ComputedRun.{reading}
-pub use Rattle.claim.specs.Claim.{Settled, Demand3}
-use Rattle.machine.specs.Faithful.{Allowed}
-use Rattle.machine.proofs.LrMachineLaws.{Config, conf, Path}
-use Rattle.claim.proofs.Means.{Limits, TableMeans}
-use Rattle.claim.proofs.Refusals.{Due, refusals, long-input, no-terminal, empty-stack, takes}
-use Rattle.claim.proofs.Follow.{act, tab, on, follows, Followed, followed, ends-accept, ends-wrong, never-broken}
-use Rattle.machine.proofs.ReportLaws.{Reading, numberOf, positionOf, productionsOf, Stops, accepted-here, wrong-here, no-steps, list-full, broken-here, stack-full, Faithful, number-is, position-is, productions-are}
+use Rattle.machine.proofs.ReportLaws.{Reading, numberOf, positionOf, productionsOf, expectedOf, sizeOf, Shown, as-is, in-place, shown-is, Located, Faithful, number-is, located-at, position-is, productions-are}
 use Rattle.machine.proofs.ReadsLaws.{faithful, refused-is}
+pub use Rattle.claim.specs.Claim.{Settled, Demand3}
+use Rattle.claim.specs.TrueOffer.{TrueOffer}
+use Rattle.claim.proofs.Means.{Limits, TableMeans}
+use Rattle.claim.proofs.Refusals.{Due, refusals, long-input, no-terminal, empty-stack, short-second, takes}
+use Rattle.claim.proofs.Endings.{end-is, Ended, sentence, no-sentence, out-32, out-33, out-34, ended}
+use Rattle.claim.proofs.Offers.{true-offer}
 
--- the end is named just where the input begins a sentence and is none
-end-is : (g : Grammar) (l : List ℕ) (i : ℕ) → ErrorPosition g l i → (i ≡ length l) ↔ (Begins g l × (Sentence g l → ⊥))
-end-is g l i (at-terminal h b n) = (
-  λ e. absurd (omega arith),
-  λ t. absurd (n (begins-front g (take (suc i) l) (drop (suc i) l) (rw take-append-drop (t .0)))),
-)
-end-is g l i (at-end e b n) = (λ _. (b, n), λ _. e)
+symbols-front : {n : ℕ} (u v : List ℕ) → Symbols n (u ++ v) → Symbols n u
+symbols-front [] v m = none
+symbols-front (a ∷ u) v (more h k m) = more h k (symbols-front u v m)
 
-unsettled : {g : Grammar} (l : List ℕ) (r : Reading) → (TableRefusal (numberOf r) → ⊥) → numberOf r ≢ 35 → numberOf r ≢ 0 → (Settled (numberOf r) → ⊥) → Demand3 g l r
-unsettled l r h₁ h₂ h₃ h₄ =
+-- what a reading that ends in neither 0, 31 nor 46 is said of
+unsettled : {g : Grammar} (l : List ℕ) (r : Reading) {n : ℕ} → numberOf r ≡ n → (TableRefusal n → ⊥) → n ≢ 35 → n ≢ 0 → n ≢ 31 → (Settled n → ⊥) → Demand3 g l r
+unsettled l r en h₁ h₂ h₃ h₅ h₄ =
     record {
-      table-taken = h₁;
-      never-breaks = h₂;
-      accepts = λ s. absurd (h₄ s);
-      derivation = λ z. absurd (h₃ z);
-      only = λ z _ _. absurd (h₃ z);
-      names-position = λ s _. absurd (h₄ s);
-      names-end = λ s _. absurd (h₄ s);
+      table-taken = λ h. h₁ (rw en at h);
+      never-breaks = λ e. h₂ (sym en ∙ e);
+      accepts = λ s. absurd (h₄ (rw en at s));
+      derivation = λ z. absurd (h₃ (sym en ∙ z));
+      only = λ z _ _. absurd (h₃ (sym en ∙ z));
+      names-position = λ s _. absurd (h₄ (rw en at s));
+      names-end = λ s _. absurd (h₄ (rw en at s));
+      offers = λ z. absurd (h₅ (sym en ∙ z));
+      offers-many = λ z. absurd (h₅ (sym en ∙ z));
     }
 
--- how a run that was not refused ends
-pub data Ended (g : Grammar) (l : List ℕ) (i : ℕ) (p : List ℕ) : ℕ → Type 0 where
-  sentence : Sentence g l → Rightmost g (g.terminals ∷ []) (reverse p) l → ((q : List ℕ) → Rightmost g (g.terminals ∷ []) q l → q ≡ reverse p) → Ended g l i p 0
-  no-sentence : (Sentence g l → ⊥) → ErrorPosition g l i → Ended g l i p 31
-  out-32 : Ended g l i p 32
-  out-33 : Ended g l i p 33
-  out-34 : Ended g l i p 34
+-- 31 and 46 refuse no table
+not-table : {n : ℕ} → (n ≡ 31) ⊎ (n ≡ 46) → TableRefusal n → ⊥
+not-table (inl e) h = elim (rw e at h) [ ]
+not-table (inr e) h = elim (rw e at h) [ ]
 
-module _ (g : Grammar) (f : Formed g) (pr : AllProductive g) (li : Limits g) (t : List ℕ) (tm : TableMeans g t) where
-  pub ended : {l : List ℕ} → Symbols g.terminals l → {a : Allowed} {n steps most : ℕ} {qs x out : List ℕ} → Path t steps most (conf (0 ∷ []) l []) (conf qs x out) → Stops t a (conf qs x out) n
-      → (i : ℕ) → (n ≡ 31 → i + length x ≡ length l) → Ended g l i out n
-  ended {l} m {a} {n} {steps} {qs = qs} {x = x} {out = out} mv w i hi = go (follows g f pr li t tm mv [] l [] refl (start-viable g) m) refl
-    where
-      finish : {γ qs x out : List ℕ} → Runs.Run g (act g f pr li t tm) [] l out γ x → Items.Viable g γ → Symbols g.terminals x → qs ≡ on g f pr li t tm γ
-          → {n : ℕ} → (n ≡ 31 → i + length x ≡ length l) → Stops t a (conf qs x out) n → Ended g l i out n
-      finish {γ} s v mx eq ei (accepted-here h _) =
-          let a = accepted g f (act g f pr li t tm) (tab g f pr li t tm) m s (ends-accept g f pr li t tm γ mx eq h refl) in
-          sentence (a .sentence) (a .derivation) (a .only)
-      finish {γ} s v mx eq ei (wrong-here h) =
-          let z = place-of g (refused g f (act g f pr li t tm) (tab g f pr li t tm) pr m s (ends-wrong g f pr li t tm γ mx eq h refl)) in
-          let ez : z .0 ≡ i = omega (arith, z .1, ei refl) in
-          no-sentence (z .2) (rw ez at (z .3))
-      finish s v mx eq ei (no-steps _ _) = out-32
-      finish s v mx eq ei (list-full _ _ _) = out-34
-      finish {γ} s v mx eq ei (broken-here h _ _) = absurd (never-broken g f pr li t tm v mx eq h refl)
-      finish s v mx eq ei (stack-full _ _ _ _) = out-33
+not-broken : {n : ℕ} → (n ≡ 31) ⊎ (n ≡ 46) → n ≢ 35
+not-broken (inl e) z = omega arith
+not-broken (inr e) z = omega arith
 
-      go : {c : Config} → Followed g f pr li t tm [] l [] steps c → c ≡ conf qs x out → Ended g l i out n
-      go (followed {γ′} {x′} {p} s v mx e) ec =
-          let ex : x′ ≡ x = cc in
-          let eo : p ≡ out = cc in
-          let eq : qs ≡ on g f pr li t tm γ′ = cc in
-          finish (rw (ex, eo) at s) v (rw ex at mx) eq hi w
+not-accepted : {n : ℕ} → (n ≡ 31) ⊎ (n ≡ 46) → n ≢ 0
+not-accepted (inl e) z = omega arith
+not-accepted (inr e) z = omega arith
 
-  demand-of : (l : List ℕ) (r : Reading) {p : List ℕ} {n : ℕ} → numberOf r ≡ n → productionsOf r ≡ p → Ended g l (positionOf r) p n → Demand3 g l r
-  demand-of l r en ep (sentence s d o) =
+module _ (g : Grammar) (l : List ℕ) (r : Reading) where
+  -- what the expected set says, where there is one
+  pub record Offers : Type 0 where
+    pub offers : numberOf r ≡ 31 → TrueOffer g (take (positionOf r) l) (expectedOf r)
+    pub many : numberOf r ≡ 31 → sizeOf r ≡ count (bit (expectedOf r)) g.terminals
+
+  wrong : (numberOf r ≡ 31) ⊎ (numberOf r ≡ 46) → (Sentence g l → ⊥) → ErrorPosition g l (positionOf r) → Offers → Demand3 g l r
+  wrong e s p o =
+      record {
+        table-taken = not-table e;
+        never-breaks = not-broken e;
+        accepts = λ _. (λ z. absurd (not-accepted e z), λ z. absurd (s z));
+        derivation = λ z. absurd (not-accepted e z);
+        only = λ z _ _. absurd (not-accepted e z);
+        names-position = λ _ z. (e, p);
+        names-end = λ _ z. end-is g l (positionOf r) p;
+        offers = o .offers;
+        offers-many = o .many;
+      }
+
+  demand-of : {p : List ℕ} {n k : ℕ} → Shown n k → numberOf r ≡ k → productionsOf r ≡ p → Ended g l (positionOf r) p n → Offers → Demand3 g l r
+  demand-of as-is en ep (sentence s d only) o =
       record {
         table-taken = λ h. elim (rw en at h) [ ];
         never-breaks = λ e. omega (arith, en, e);
         accepts = λ _. (λ _. s, λ _. en);
         derivation = λ _. rw ep d;
-        only = λ _ q z. rw ep (o q z);
+        only = λ _ q z. rw ep (only q z);
         names-position = λ _ z. absurd (z en);
         names-end = λ _ z. absurd (z en);
+        offers = λ z. absurd (omega (arith, en, z));
+        offers-many = λ z. absurd (omega (arith, en, z));
       }
-  demand-of l r en ep (no-sentence s p) =
-      record {
-        table-taken = λ h. elim (rw en at h) [ ];
-        never-breaks = λ e. omega (arith, en, e);
-        accepts = λ _. (λ z. absurd (omega (arith, en, z)), λ z. absurd (s z));
-        derivation = λ z. absurd (omega (arith, en, z));
-        only = λ z _ _. absurd (omega (arith, en, z));
-        names-position = λ _ z. (en, p);
-        names-end = λ _ z. end-is g l (positionOf r) p;
-      }
-  demand-of l r en ep out-32 = unsettled l r (λ h. elim (rw en at h) [ ]) (λ e. omega (arith, en, e)) (λ e. omega (arith, en, e)) (λ s. s .steps-left en)
-  demand-of l r en ep out-33 = unsettled l r (λ h. elim (rw en at h) [ ]) (λ e. omega (arith, en, e)) (λ e. omega (arith, en, e)) (λ s. s .stack-left en)
-  demand-of l r en ep out-34 = unsettled l r (λ h. elim (rw en at h) [ ]) (λ e. omega (arith, en, e)) (λ e. omega (arith, en, e)) (λ s. s .list-left en)
+  demand-of as-is en ep (no-sentence s p) o = wrong (inl en) s p o
+  demand-of in-place en ep (no-sentence s p) o = wrong (inr en) s p o
+  demand-of as-is en ep out-32 o = unsettled l r en (λ h. elim h [ ]) (λ e. omega arith) (λ e. omega arith) (λ e. omega arith) (λ s. s .steps-left refl)
+  demand-of as-is en ep out-33 o = unsettled l r en (λ h. elim h [ ]) (λ e. omega arith) (λ e. omega arith) (λ e. omega arith) (λ s. s .stack-left refl)
+  demand-of as-is en ep out-34 o = unsettled l r en (λ h. elim h [ ]) (λ e. omega arith) (λ e. omega arith) (λ e. omega arith) (λ s. s .list-left refl)
+
+module _ (g : Grammar) (f : Formed g) (pr : AllProductive g) (li : Limits g) (t : List ℕ) (tm : TableMeans g t) where
+  -- the offer of a faithful reading is the grammar's
+  module _ {l st la se : List ℕ} {a : ℕ} {r : Reading} (m : Symbols g.terminals l) (h : 0 < length se) (fd : Faithful t l st la se a r) where
+    at : numberOf r ≡ 31 → Located t l a (length se) (fd .ahead) (r .report)
+    at e = located-at fd (shown-is (number-is fd) e (λ z. omega arith))
+
+    offers-of : Offers g l r
+    offers-of = record { offers = λ e. offers e (at e); many = λ e. at e .offer e .1 ∙ ap (count (bit (expectedOf r))) tm.terminals-are }
+      where
+        offers : numberOf r ≡ 31 → Located t l a (length se) (fd .ahead) (r .report) → TrueOffer g (take (positionOf r) l) (expectedOf r)
+        offers e z =
+            let line-is : take (positionOf r) l ≡ z .line = rw (z .place, ← z .whole) (take-at (z .line) (fd .ahead) (length (z .line)) refl) in
+            let ml : Symbols g.terminals (z .line) = symbols-front (z .line) (fd .ahead) (rw (z .whole) m) in
+            rw line-is (true-offer g f pr li t tm ml h (z .offer e .0))
 
   -- the claim
-  pub demand-3 : (l st la : List ℕ) (a : ℕ) → Demand3 g l (reading t l st la a)
-  demand-3 l st la a = go (refusals g f pr li t tm l (length st)) refl
+  pub demand-3 : (l st la se : List ℕ) (a : ℕ) → Demand3 g l (reading t l st la se a)
+  demand-3 l st la se a = go (refusals g f pr li t tm l (length st) (length se)) refl
     where
-      stopped : {n : ℕ} → refusalOf t l (length st) ≡ n → Refusal n → (TableRefusal n → ⊥) → n ≢ 0 → n ≢ 35 → Demand3 g l (reading t l st la a)
-      stopped {n} e h k nz nb =
-          let en : numberOf (reading t l st la a) ≡ n = ap numberOf (refused-is t l st la a n e nz) in
-          unsettled l (reading t l st la a) (λ h. k (rw en at h)) (λ e. nb (sym en ∙ e)) (λ e. nz (sym en ∙ e)) (λ s. s .taken (rw en h))
+      stopped : {n : ℕ} → refusalOf t l (length st) (length se) ≡ n → Refusal n → (TableRefusal n → ⊥) → n ≢ 0 → n ≢ 31 → n ≢ 35 → Demand3 g l (reading t l st la se a)
+      stopped {n} e h k nz nw nb =
+          unsettled l (reading t l st la se a) (ap numberOf (refused-is t l st la se a n e nz)) k nb nz nw (λ s. s .taken h)
 
-      read : {r : Reading} → Symbols g.terminals l → Faithful t l st la a r → Demand3 g l r
-      read {r} m fd = demand-of l r (number-is fd) (productions-are fd) (ended m (fd .path) (fd .why) (positionOf r) (position-is fd))
+      read : {r : Reading} → Symbols g.terminals l → 0 < length se → Faithful t l st la se a r → Demand3 g l r
+      read {r} m h fd = demand-of g l r (number-is fd) refl (productions-are fd) (ended g f pr li t tm m (fd .path) (fd .why) (positionOf r) (position-is fd)) (offers-of m h fd)
 
-      go : {n : ℕ} → Due g f pr li t tm l (length st) n → refusalOf t l (length st) ≡ n → Demand3 g l (reading t l st la a)
-      go (long-input h) e = stopped e input-long (λ h. elim h [ ]) (λ z. omega arith) (λ z. omega arith)
-      go (no-terminal h k) e = stopped e terminal-wrong (λ h. elim h [ ]) (λ z. omega arith) (λ z. omega arith)
-      go (empty-stack h k z) e = stopped e no-stack (λ h. elim h [ ]) (λ z. omega arith) (λ z. omega arith)
-      go (takes h m k) e = read m (faithful t l st la a e)
+      go : {n : ℕ} → Due g f pr li t tm l (length st) (length se) n → refusalOf t l (length st) (length se) ≡ n → Demand3 g l (reading t l st la se a)
+      go (long-input h) e = stopped e input-long (λ h. elim h [ ]) (λ z. omega arith) (λ z. omega arith) (λ z. omega arith)
+      go (no-terminal h k) e = stopped e terminal-wrong (λ h. elim h [ ]) (λ z. omega arith) (λ z. omega arith) (λ z. omega arith)
+      go (empty-stack h k z) e = stopped e no-stack (λ h. elim h [ ]) (λ z. omega arith) (λ z. omega arith) (λ z. omega arith)
+      go (short-second h k z s) e = stopped e second-short (λ h. elim h [ ]) (λ z. omega arith) (λ z. omega arith) (λ z. omega arith)
+      go (takes h m k s) e = read m (omega arith) (faithful t l st la se a e)

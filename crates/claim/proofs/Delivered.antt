@@ -1,14 +1,21 @@
 -- Demand 3 for any list that is the grammar's table, with anything behind it in its area.
-use Prim.Native.Nat.{ℕ, _≤_}
+use Prim.Native.Nat.{ℕ, _<_, _≤_}
 use mathlib.Core.List.{List, _++_}
-use Rattle.grammar.specs.Grammar.{Grammar, Formed}
+use Rattle.grammar.specs.Grammar.{Grammar, Formed, Symbols}
 use Rattle.lr.specs.Cells.{Table}
 use Rattle.lr.proofs.ItemLaws.{AllProductive}
+use Rattle.machine.specs.Exploration.{Explored}
 use Rattle.machine.specs.ComputedRun.{reading}
 use Rattle.claim.proofs.Means.{Limits}
 use Rattle.claim.proofs.Meaning.{table-means}
+use Rattle.claim.proofs.Offers.{unbroken}
 use Rattle.claim.proofs.ClaimLaws.{Demand3, demand-3}
 
 pub claim : (g : Grammar) → Formed g → AllProductive g → Limits g → (count : ℕ) (next : ℕ → ℕ → ℕ) (l : List ℕ) → Table g count next l → count ≤ 256
-    → (behind input stack list : List ℕ) (limit : ℕ) → Demand3 g input (reading (l ++ behind) input stack list limit)
+    → (behind input stack list second : List ℕ) (limit : ℕ) → Demand3 g input (reading (l ++ behind) input stack list second limit)
 claim g f pr li count next l tb few behind = demand-3 g f pr li (l ++ behind) (table-means g f pr li count next l tb few behind)
+
+-- "With the maker's table 35 never comes", in a fresh reading neither
+pub fresh-unbroken : (g : Grammar) → Formed g → AllProductive g → Limits g → (count : ℕ) (next : ℕ → ℕ → ℕ) (l : List ℕ) → Table g count next l → count ≤ 256
+    → (behind line : List ℕ) → Symbols g.terminals line → (limit second m : ℕ) → m < g.terminals → Explored (l ++ behind) limit second line m 35 → ⊥
+fresh-unbroken g f pr li count next l tb few behind line s limit second m h x = unbroken g f pr li (l ++ behind) (table-means g f pr li count next l tb few behind) s h x

@@ -123,11 +123,11 @@ module _ (g : Grammar) (f : Formed g) (pr : AllProductive g) (li : Limits g) (t 
   unfolding tableRefusal
   table-passes = rw (long, sizes-ok, le-leb (sizeOf t) (length t) (tm.whole), productions-ok, cells-ok, entries-ok)
 
-  pub refusal-is : (l : List ℕ) (n : ℕ) → refusalOf t l n ≡ unless (leb (length l) 65535) 25 (unless (inputOk t l) 26 (unless (ltb 0 n) 27 0))
+  pub refusal-is : (l : List ℕ) (n k : ℕ) → refusalOf t l n k ≡ unless (leb (length l) 65535) 25 (unless (inputOk t l) 26 (unless (ltb 0 n) 27 (unless (leb n k) 45 0)))
   unfolding refusalOf inputRefusal areaRefusal
-  refusal-is l n = rw table-passes (go (leb (length l) 65535) (inputOk t l))
+  refusal-is l n k = rw table-passes (go (leb (length l) 65535) (inputOk t l))
     where
-      go : (a b : Bool) → firstRefusal (unless a 25 (unless b 26 0)) (areaRefusal n) ≡ unless a 25 (unless b 26 (unless (ltb 0 n) 27 0))
+      go : (a b : Bool) → firstRefusal (unless a 25 (unless b 26 0)) (areaRefusal n k) ≡ unless a 25 (unless b 26 (unless (ltb 0 n) 27 (unless (leb n k) 45 0)))
       go false b = refl
       go true false = refl
       go true true = refl
@@ -155,17 +155,19 @@ module _ (g : Grammar) (f : Formed g) (pr : AllProductive g) (li : Limits g) (t 
       at (more h k m) (suc i) z = at m i (omega arith)
 
   -- what the reader answers such a table with before it reads
-  pub data Due (l : List ℕ) (n : ℕ) : ℕ → Type 0 where
-    long-input : 65535 < length l → Due l n 25
-    no-terminal : length l ≤ 65535 → (Symbols g.terminals l → ⊥) → Due l n 26
-    empty-stack : length l ≤ 65535 → Symbols g.terminals l → n ≡ 0 → Due l n 27
-    takes : length l ≤ 65535 → Symbols g.terminals l → 0 < n → Due l n 0
+  pub data Due (l : List ℕ) (n k : ℕ) : ℕ → Type 0 where
+    long-input : 65535 < length l → Due l n k 25
+    no-terminal : length l ≤ 65535 → (Symbols g.terminals l → ⊥) → Due l n k 26
+    empty-stack : length l ≤ 65535 → Symbols g.terminals l → n ≡ 0 → Due l n k 27
+    short-second : length l ≤ 65535 → Symbols g.terminals l → 0 < n → k < n → Due l n k 45
+    takes : length l ≤ 65535 → Symbols g.terminals l → 0 < n → n ≤ k → Due l n k 0
 
-  pub refusals : (l : List ℕ) (n : ℕ) → Due l n (refusalOf t l n)
-  refusals l n = rw refusal-is (go (leb (length l) 65535) (inputOk t l) (ltb 0 n) refl refl refl)
+  pub refusals : (l : List ℕ) (n k : ℕ) → Due l n k (refusalOf t l n k)
+  refusals l n k = rw refusal-is (go (leb (length l) 65535) (inputOk t l) (ltb 0 n) (leb n k) refl refl refl refl)
     where
-      go : (a b c : Bool) → leb (length l) 65535 ≡ a → inputOk t l ≡ b → ltb 0 n ≡ c → Due l n (unless a 25 (unless b 26 (unless c 27 0)))
-      go false b c ea eb ec = long-input (leb-false (length l) 65535 ea)
-      go true false c ea eb ec = no-terminal (leb-true (length l) 65535 ea) (λ m. let e = terminals-input m in let z : _≡_ {A = ℕ} 0 1 = cc in omega arith)
-      go true true false ea eb ec = empty-stack (leb-true (length l) 65535 ea) (input-terminals l eb) (let h = ltb-false 0 n ec in omega arith)
-      go true true true ea eb ec = takes (leb-true (length l) 65535 ea) (input-terminals l eb) (ltb-true 0 n ec)
+      go : (a b c d : Bool) → leb (length l) 65535 ≡ a → inputOk t l ≡ b → ltb 0 n ≡ c → leb n k ≡ d → Due l n k (unless a 25 (unless b 26 (unless c 27 (unless d 45 0))))
+      go false b c d ea eb ec ed = long-input (leb-false (length l) 65535 ea)
+      go true false c d ea eb ec ed = no-terminal (leb-true (length l) 65535 ea) (λ m. let e = terminals-input m in let z : _≡_ {A = ℕ} 0 1 = cc in omega arith)
+      go true true false d ea eb ec ed = empty-stack (leb-true (length l) 65535 ea) (input-terminals l eb) (let h = ltb-false 0 n ec in omega arith)
+      go true true true false ea eb ec ed = short-second (leb-true (length l) 65535 ea) (input-terminals l eb) (ltb-true 0 n ec) (leb-false n k ed)
+      go true true true true ea eb ec ed = takes (leb-true (length l) 65535 ea) (input-terminals l eb) (ltb-true 0 n ec) (leb-true n k ed)

@@ -1,1 +1,2 @@
+pub mod TrueOffer
 pub mod Claim

@@ -47,7 +47,7 @@ rest-length [] h = absurd (omega arith)
 rest-length (a ∷ x) h = refl
 
 -- what stays under n popped states
-reverse-drop : (n : ℕ) (qs : List ℕ) → n ≤ length qs → take (length qs - n) (reverse qs) ≡ reverse (drop n qs)
+pub reverse-drop : (n : ℕ) (qs : List ℕ) → n ≤ length qs → take (length qs - n) (reverse qs) ≡ reverse (drop n qs)
 reverse-drop n qs h = go (take n qs) (drop n qs) (take-append-drop n qs) (length-take-le n qs h)
   where
     go : (u v : List ℕ) → u ++ v ≡ qs → length u ≡ n → take (length qs - n) (reverse qs) ≡ reverse v
@@ -84,7 +84,7 @@ popped-covered most n u st h k b =
     let en : n + (most - length u) ≡ most - (length u - n) = omega arith in
     e₁ ∙ rw (e₂, e₃, lt, ← en, ← replicate-append-replicate {A = ℕ} n (most - length u) 0, append-assoc)
 
-top-at : (s : List ℕ) (k p : ℕ) (ps : List ℕ) → take k s ≡ reverse (p ∷ ps) → k ≡ length (p ∷ ps) → topOf s k ≡ p
+pub top-at : (s : List ℕ) (k p : ℕ) (ps : List ℕ) → take k s ≡ reverse (p ∷ ps) → k ≡ length (p ∷ ps) → topOf s k ≡ p
 unfolding topOf
 top-at s k p ps e d =
     let ed : k - 1 ≡ length ps = omega (arith, d) in
@@ -135,7 +135,7 @@ module _ {t l st li : List ℕ} (pa : Passed t l (length st)) {n most : ℕ} {m 
   list-long = rw (h .listing) (covered-length (length out) out li (omega arith) (h .room))
 
   -- n states popped leave p ∷ ps
-  left-under : (n p : ℕ) (ps : List ℕ) → drop n (q ∷ qs) ≡ p ∷ ps → (n < m .depth) × (m .depth - n ≡ length (p ∷ ps)) × (take (m .depth - n) (m .stack) ≡ reverse (p ∷ ps))
+  pub left-under : (n p : ℕ) (ps : List ℕ) → drop n (q ∷ qs) ≡ p ∷ ps → (n < m .depth) × (m .depth - n ≡ length (p ∷ ps)) × (take (m .depth - n) (m .stack) ≡ reverse (p ∷ ps))
   left-under n p ps e =
       let d = h .deep in
       let e₁ : length (p ∷ ps) ≡ length (q ∷ qs) - n = ap length (sym e) ∙ length-drop n (q ∷ qs) in

@@ -63,22 +63,32 @@ checked t e =
       entries-ok = p6 .0;
     }
 
--- what 0 as the refusal says; n is the length of the stack area
+-- what a run needs; n is the length of its stack area
 pub record Passed (t l : List ℕ) (n : ℕ) : Type 0 where
   pub table : Checked t
-  pub short : length l ≤ 65535
   pub input-ok : inputOk t l ≡ true
   pub places : 0 < n
 
-pub passed : (t l : List ℕ) (n : ℕ) → refusalOf t l n ≡ 0 → Passed t l n
+-- what 0 as the refusal says; n and k are the lengths of both stack areas
+pub record Taken (t l : List ℕ) (n k : ℕ) : Type 0 where
+  pub passed : Passed t l n
+  pub short : length l ≤ 65535
+  pub second : n ≤ k
+
+pub taken : (t l : List ℕ) (n k : ℕ) → refusalOf t l n k ≡ 0 → Taken t l n k
 unfolding refusalOf inputRefusal areaRefusal
-passed t l n e =
+taken t l n k e =
     let p1 = neither (tableRefusal t) _ e in
-    let p2 = neither (inputRefusal t l) (areaRefusal n) (p1 .1) in
+    let p2 = neither (inputRefusal t l) (areaRefusal n k) (p1 .1) in
     let p3 = passes (leb (length l) 65535) 24 _ (p2 .0) in
     let p4 = passes (inputOk t l) 25 _ (p3 .1) in
     let p5 = passes (ltb 0 n) 26 _ (p2 .1) in
-    record { table = checked t (p1 .0); short = leb-true (length l) 65535 (p3 .0); input-ok = p4 .0; places = ltb-true 0 n (p5 .0) }
+    let p6 = passes (leb n k) 44 _ (p5 .1) in
+    record {
+      passed = record { table = checked t (p1 .0); input-ok = p4 .0; places = ltb-true 0 n (p5 .0) };
+      short = leb-true (length l) 65535 (p3 .0);
+      second = leb-true n k (p6 .0);
+    }
 
 false-true : {A : Type 0} {b : Bool} → b ≡ false → b ≡ true → A
 false-true e k = let z : _≡_ {A = ℕ} 0 1 = cc in absurd (omega arith)

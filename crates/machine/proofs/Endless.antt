@@ -7,6 +7,7 @@ use mathlib.Core.Logic.{_≢_}
 use mathlib.Core.List.{List, [], _∷_, _++_, append-assoc, append-nil, reverse}
 use lib.ListN.{length, drop, getD, replicate, length-replicate}
 use lib.Pow.{pow-pos}
+use borrow.Author.Tests.{le-leb}
 use native.Mathlib.Omega.{arith}
 use Rattle.sets.specs.Tests.{allBelow, between}
 use Rattle.sets.specs.Lists.{covered}
@@ -24,10 +25,10 @@ use Rattle.machine.proofs.Widths.{count-most, modulo}
 abbrev pub endless : List ℕ
 endless = 2 ∷ 1 ∷ 1 ∷ 2 ∷ 1 ∷ 1 ∷ 0 ∷ 1 ∷ 0 ∷ 1 ∷ 1024 ∷ 1 ∷ 1025 ∷ 0 ∷ []
 
-taken : refusalOf endless [] 2 ≡ 0
+taken : (se : List ℕ) → 2 ≤ length se → refusalOf endless [] 2 (length se) ≡ 0
 unfolding refusalOf tableRefusal inputRefusal areaRefusal inputOk entriesOk rowNamesOk namesOk entryOk cellsOk productionsOk rowOk cellOk terminalCellOk productionOk sizesOk
     states terminals nonterminals productions width leftOf lengthOf enteredOf cellOf sizeOf allBelow between
-taken = refl
+taken se h = rw (le-leb 2 (length se) h) refl
 
 abbrev looping : List ℕ → Config
 looping out = conf (1 ∷ 0 ∷ []) [] out
@@ -50,8 +51,8 @@ not-wrong : (out : List ℕ) → Ends endless (looping out) 31 → ⊥
 unfolding cellOf states productions width terminals nonterminals
 not-wrong out (wrong e) = omega (arith, e)
 
-count-suc : (n : ℕ) (li : List ℕ) → suc n ≤ length li → numbersOf (reading endless [] (0 ∷ 0 ∷ []) li (suc n) .report) ≡ 32 ∷ suc n ∷ 2 ∷ suc n ∷ []
-count-suc n li h = ap (λ (r : Reading). numbersOf (r .report)) (sym (only-reading endless [] (0 ∷ 0 ∷ []) li (suc n) taken f)) ∙ ap₂ (λ (c k : ℕ). 32 ∷ c ∷ 2 ∷ k ∷ []) same many
+count-suc : (n : ℕ) (li se : List ℕ) → 2 ≤ length se → suc n ≤ length li → numbersOf (reading endless [] (0 ∷ 0 ∷ []) li se (suc n) .report) ≡ 32 ∷ suc n ∷ 2 ∷ suc n ∷ []
+count-suc n li se l h = ap (λ (r : Reading). numbersOf (r .report)) (sym (only-reading endless [] (0 ∷ 0 ∷ []) li se (suc n) (taken se l) f)) ∙ ap₂ (λ (c k : ℕ). 32 ∷ c ∷ 2 ∷ k ∷ []) same many
   where
     same : suc n + 0 ≡ suc n
     same = omega arith
@@ -62,7 +63,7 @@ count-suc n li h = ap (λ (r : Reading). numbersOf (r .report)) (sym (only-readi
     many : length listed ≡ suc n
     many = let e = length-replicate {A = ℕ} n 1 in omega (arith, e)
 
-    f : Faithful endless [] (0 ∷ 0 ∷ []) li (suc n) (record { report = ended 32 (suc n + 0) 2 (length listed); stack = covered 2 (reverse (1 ∷ 0 ∷ [])) (0 ∷ 0 ∷ []); list = listed ++ drop (length listed) li })
+    f : Faithful endless [] (0 ∷ 0 ∷ []) li se (suc n) (record { report = ended 32 (suc n + 0) 2 (length listed); stack = covered 2 (reverse (1 ∷ 0 ∷ [])) (0 ∷ 0 ∷ []); list = listed ++ drop (length listed) li; second = replicate (length se) 0 })
     f = record {
       steps = suc n;
       most = 2;
@@ -79,17 +80,18 @@ count-suc n li h = ap (λ (r : Reading). numbersOf (r .report)) (sym (only-readi
       reported = counts 32 (λ e. omega arith);
       stacked = refl;
       listing = refl;
+      cleared = refl;
     }
 
 -- a list area with a place for each step lets the limit alone end the reading
-pub every-count : (a : ℕ) (li : List ℕ) → 0 < a → a ≤ length li → numbersOf (reading endless [] (0 ∷ 0 ∷ []) li a .report) ≡ 32 ∷ a ∷ 2 ∷ a ∷ []
-every-count zero li z h = absurd (omega arith)
-every-count (suc n) li z h = count-suc n li h
+pub every-count : (a : ℕ) (li se : List ℕ) → 2 ≤ length se → 0 < a → a ≤ length li → numbersOf (reading endless [] (0 ∷ 0 ∷ []) li se a .report) ≡ 32 ∷ a ∷ 2 ∷ a ∷ []
+every-count zero li se l z h = absurd (omega arith)
+every-count (suc n) li se l z h = count-suc n li se l h
 
 -- so w bits are too few for every limit from 2 ^ w on
-pub too-narrow : (w a : ℕ) (li : List ℕ) → 2 ^ w ≤ a → a ≤ length li → (r : Reading) → ReadsIn w endless [] (0 ∷ 0 ∷ []) li a r
-    → r ≢ reading endless [] (0 ∷ 0 ∷ []) li a
-too-narrow w a li g h r d e =
-    let all : stepsOf (reading endless [] (0 ∷ 0 ∷ []) li a) ≡ a = ap (λ (n : List ℕ). getD n 1 0) (every-count a li (omega (arith, pow-pos w)) h) in
-    let few = count-most (modulo w endless [] (0 ∷ 0 ∷ []) li a r .0 d) in
+pub too-narrow : (w a : ℕ) (li se : List ℕ) → 2 ≤ length se → 2 ^ w ≤ a → a ≤ length li → (r : Reading) → ReadsIn w endless [] (0 ∷ 0 ∷ []) li se a r
+    → r ≢ reading endless [] (0 ∷ 0 ∷ []) li se a
+too-narrow w a li se l g h r d e =
+    let all : stepsOf (reading endless [] (0 ∷ 0 ∷ []) li se a) ≡ a = ap (λ (n : List ℕ). getD n 1 0) (every-count a li se l (omega (arith, pow-pos w)) h) in
+    let few = count-most (modulo w endless [] (0 ∷ 0 ∷ []) li se a r .0 d) in
     omega (arith, sym (ap stepsOf e ∙ all), mod-lt a (pow-pos w))

@@ -7,6 +7,8 @@ pub mod Settles
 pub mod RunLaws
 pub mod Offers
 pub mod Areas
+pub mod Explorations
+pub mod Checkpoints
 pub mod ReadsLaws
 pub mod ReportLaws
 pub mod Spent

@@ -1,20 +1,16 @@
--- Laws of the expected set: its word has the bits of the terminals whose cell is not 0.
+-- Laws of the word of those below a number that have a property.
 use mathlib.Core.Path.{_≡_, refl, sym, ap, _∙_}
-use mathlib.Core.Logic.{_≢_, ⊎-elim}
+use mathlib.Core.Logic.{_↔_, ⊎-elim}
 use mathlib.Core.Bool.{Bool, true, false}
-use mathlib.Core.List.{List}
 use Prim.Native.Nat.{ℕ, zero, suc, _+_, _*_, _^_, _<_}
 use native.Mathlib.Nat.{pow-suc, zero-mul, zero-add, one-mul}
 use native.Mathlib.Omega.{arith}
 use native.Mathlib.Decide.{decLt}
 use lib.Bits.{bitOr, or-shifted-r}
-use lib.Count.{ones}
-use Rattle.sets.specs.Bit.{bit, Has}
-use Rattle.sets.proofs.BitLaws.{bits-eq, ones-count}
+use Rattle.sets.specs.Bit.{bit, one-if, Has}
+use Rattle.sets.proofs.BitLaws.{bits-eq}
 use Rattle.sets.proofs.HasLaws.{has-none, has-or, has-one, one-has, or-has-l, or-has-r}
-use Rattle.tables.specs.Layout.{terminals, cellOf}
-use Rattle.machine.specs.ComputedRun.{bitIf, expectedWord}
-use Rattle.machine.specs.Faithful.{Offer}
+use Rattle.machine.specs.ComputedRun.{wordOf}
 
 -- two sets with the same members are one
 same-test : (p q : Bool) → (p ≡ true → q ≡ true) → (q ≡ true → p ≡ true) → p ≡ q
@@ -22,58 +18,57 @@ same-test true q f g = sym (f refl)
 same-test false true f g = g refl
 same-test false false f g = refl
 
+pub same-members : (v w : ℕ) → ((m : ℕ) → Has v m ↔ Has w m) → v ≡ w
+same-members v w h = bits-eq v w (λ m. same-test (bit v m) (bit w m) (h m .0) (h m .1))
+
 -- a word below 2 ^ k, with bit k put in or not
-pub bit-none : (c k w : ℕ) → c ≡ 0 → w ≡ bitIf c * 2 ^ k + w
-bit-none c k w e = rw e (sym (ap (λ (x : ℕ). x + w) (zero-mul (2 ^ k)) ∙ zero-add w))
+bit-none : (k w : ℕ) → w ≡ one-if false * 2 ^ k + w
+bit-none k w = sym (ap (λ (x : ℕ). x + w) (zero-mul (2 ^ k)) ∙ zero-add w)
 
-pub bit-one : (c k w : ℕ) → (c ≡ 0 → ⊥) → w < 2 ^ k → bitOr w (2 ^ k) ≡ bitIf c * 2 ^ k + w
-bit-one zero k w e g = absurd (e refl)
-bit-one (suc c) k w e g = ap (bitOr w) (sym (one-mul (2 ^ k))) ∙ or-shifted-r 1 k w g
+bit-one : (k w : ℕ) → w < 2 ^ k → bitOr w (2 ^ k) ≡ one-if true * 2 ^ k + w
+bit-one k w g = ap (bitOr w) (sym (one-mul (2 ^ k))) ∙ or-shifted-r 1 k w g
 
-pub bit-lt : (c k w : ℕ) → w < 2 ^ k → bitIf c * 2 ^ k + w < 2 ^ suc k
-bit-lt zero k w h = omega (arith, pow-suc 2 k)
-bit-lt (suc c) k w h = omega (arith, pow-suc 2 k)
+bit-lt : (b : Bool) (k w : ℕ) → w < 2 ^ k → one-if b * 2 ^ k + w < 2 ^ suc k
+bit-lt false k w h = omega (arith, pow-suc 2 k)
+bit-lt true k w h = omega (arith, pow-suc 2 k)
 
-module _ (t : List ℕ) (q : ℕ) where
-  pub expectedWord-lt : (k : ℕ) → expectedWord t q k < 2 ^ k
-  unfolding expectedWord
-  expectedWord-lt zero = omega arith
-  expectedWord-lt (suc k) = bit-lt (cellOf t q k) k (expectedWord t q k) (expectedWord-lt k)
+module _ (p : ℕ → Bool) where
+  pub word-lt : (k : ℕ) → wordOf p k < 2 ^ k
+  unfolding wordOf
+  word-lt zero = omega arith
+  word-lt (suc k) = bit-lt (p k) k (wordOf p k) (word-lt k)
 
-  expected-has : (k m : ℕ) → Has (expectedWord t q k) m → (m < k) × (cellOf t q m ≢ 0)
-  unfolding expectedWord
-  expected-has zero m h = absurd (has-none m h)
-  expected-has (suc k) m h = go (cellOf t q k) refl (expected-has k m) h
+  word-has : (k m : ℕ) → Has (wordOf p k) m → (m < k) × (p m ≡ true)
+  unfolding wordOf
+  word-has zero m h = absurd (has-none m h)
+  word-has (suc k) m h = go (p k) refl (word-has k m) h
     where
-      go : (c : ℕ) → cellOf t q k ≡ c → (Has (expectedWord t q k) m → (m < k) × (cellOf t q m ≢ 0)) → Has (bitIf c * 2 ^ k + expectedWord t q k) m → (m < suc k) × (cellOf t q m ≢ 0)
-      go zero e ih h = let z = ih (rw (← bit-none 0 k (expectedWord t q k) refl) at h) in (omega (arith, z .0), z .1)
-      go (suc c) e ih h =
+      go : (b : Bool) → p k ≡ b → (Has (wordOf p k) m → (m < k) × (p m ≡ true)) → Has (one-if b * 2 ^ k + wordOf p k) m → (m < suc k) × (p m ≡ true)
+      go false e ih h = let z = ih (rw (← bit-none k (wordOf p k)) at h) in (omega (arith, z .0), z .1)
+      go true e ih h =
           ⊎-elim
           (λ w. let z = ih w in (omega (arith, z .0), z .1))
-          (λ w. let em : k ≡ m = has-one k m w in (omega arith, λ z. omega (arith, ap (cellOf t q) em, e, z)))
-          (has-or (expectedWord t q k) (2 ^ k) m (rw (← bit-one (suc c) k (expectedWord t q k) (λ z. omega arith) (expectedWord-lt k)) at h))
+          (λ w. let em : k ≡ m = has-one k m w in (omega arith, ap p (sym em) ∙ e))
+          (has-or (wordOf p k) (2 ^ k) m (rw (← bit-one k (wordOf p k) (word-lt k)) at h))
 
-  has-expected : (k m : ℕ) → m < k → cellOf t q m ≢ 0 → Has (expectedWord t q k) m
-  unfolding expectedWord
-  has-expected zero m h n = absurd (omega arith)
-  has-expected (suc k) m h n = go (cellOf t q k) refl (decLt m k) (λ b. has-expected k m b n)
+  has-word : (k m : ℕ) → m < k → p m ≡ true → Has (wordOf p k) m
+  unfolding wordOf
+  has-word zero m h n = absurd (omega arith)
+  has-word (suc k) m h n = go (p k) refl (decLt m k) (λ b. has-word k m b n)
     where
-      go : (c : ℕ) → cellOf t q k ≡ c → Dec (m < k) → (m < k → Has (expectedWord t q k) m) → Has (bitIf c * 2 ^ k + expectedWord t q k) m
-      go zero e (yes b) ih = rw (← bit-none 0 k (expectedWord t q k) refl) (ih b)
-      go zero e (no b) ih = let em : m ≡ k = omega (arith, b) in absurd (n (ap (cellOf t q) em ∙ e))
-      go (suc c) e (yes b) ih = rw (← bit-one (suc c) k (expectedWord t q k) (λ z. omega arith) (expectedWord-lt k)) (or-has-l (expectedWord t q k) (2 ^ k) m (ih b))
-      go (suc c) e (no b) ih =
+      go : (b : Bool) → p k ≡ b → Dec (m < k) → (m < k → Has (wordOf p k) m) → Has (one-if b * 2 ^ k + wordOf p k) m
+      go false e (yes b) ih = rw (← bit-none k (wordOf p k)) (ih b)
+      go false e (no b) ih = let em : m ≡ k = omega (arith, b) in let z : _≡_ {A = Bool} true false = sym n ∙ ap p em ∙ e in let y : _≡_ {A = ℕ} 0 1 = cc in absurd (omega arith)
+      go true e (yes b) ih = rw (← bit-one k (wordOf p k) (word-lt k)) (or-has-l (wordOf p k) (2 ^ k) m (ih b))
+      go true e (no b) ih =
           let em : k ≡ m = omega (arith, b) in
-          rw (← bit-one (suc c) k (expectedWord t q k) (λ z. omega arith) (expectedWord-lt k)) (or-has-r (expectedWord t q k) (2 ^ k) m (rw (← em) (one-has k)))
+          rw (← bit-one k (wordOf p k) (word-lt k)) (or-has-r (wordOf p k) (2 ^ k) m (rw (← em) (one-has k)))
 
-  pub offered : Offer t q (expectedWord t q (terminals t)) (ones (expectedWord t q (terminals t)))
-  offered = record {
-    members = λ m. (λ h. expected-has (terminals t) m h, λ z. has-expected (terminals t) m (z .0) (z .1));
-    many = ones-count (terminals t) (expectedWord t q (terminals t)) (expectedWord-lt (terminals t));
-  }
+  pub word-members : (k m : ℕ) → Has (wordOf p k) m ↔ ((m < k) × (p m ≡ true))
+  word-members k m = (word-has k m, λ z. has-word k m (z .0) (z .1))
 
-  -- and there is no other
-  pub offer-same : {v w i j : ℕ} → Offer t q v i → Offer t q w j → (v ≡ w) × (i ≡ j)
-  offer-same {v} {w} a b =
-      let e : v ≡ w = bits-eq v w (λ m. same-test (bit v m) (bit w m) (λ h. b .members m .1 (a .members m .0 h)) (λ h. a .members m .1 (b .members m .0 h))) in
-      (e, a .many ∙ rw e (sym (b .many)))
+-- a word whose members are below k is below 2 ^ k
+pub word-below : (w k : ℕ) → ((m : ℕ) → Has w m → m < k) → w < 2 ^ k
+word-below w k h =
+    let e : w ≡ wordOf (bit w) k = same-members w (wordOf (bit w) k) (λ m. (λ z. word-members (bit w) k m .1 (h m z, z), λ z. word-members (bit w) k m .0 z .1)) in
+    rw e (word-lt (bit w) k)

@@ -10,7 +10,7 @@ use native.Mathlib.Omega.{arith}
 use borrow.Author.Tests.{lt-leb}
 use Rattle.sets.specs.Tests.{allBelow, between, unless, firstRefusal}
 use Rattle.tables.specs.Layout.{states, terminals, nonterminals, productions, width, leftOf, lengthOf, enteredOf, cellOf, sizeOf}
-use Rattle.machine.specs.Checks.{sizesOk, productionOk, terminalCellOk, cellOk, rowOk, productionsOk, cellsOk, entryOk, namesOk, rowNamesOk, entriesOk, terminalOk, inputOk, tableRefusal, inputRefusal, areaRefusal, refusalOf, TableRefusal, table-short, sizes-wrong, production-wrong, cell-wrong, entry-wrong, Refusal, of-table, input-long, terminal-wrong, no-stack}
+use Rattle.machine.specs.Checks.{sizesOk, productionOk, terminalCellOk, cellOk, rowOk, productionsOk, cellsOk, entryOk, namesOk, rowNamesOk, entriesOk, terminalOk, inputOk, tableRefusal, inputRefusal, areaRefusal, refusalOf, TableRefusal, table-short, sizes-wrong, production-wrong, cell-wrong, entry-wrong, Refusal, of-table, input-long, terminal-wrong, no-stack, second-short}
 
 -- ---- no others come
 
@@ -40,14 +40,14 @@ input-number : (t l : List ℕ) → inputRefusal t l ≢ 0 → Refusal (inputRef
 unfolding inputRefusal
 input-number t l = test Refusal (leb (length l) 65535) input-long (test Refusal (inputOk t l) terminal-wrong (none Refusal))
 
-area-number : (n : ℕ) → areaRefusal n ≢ 0 → Refusal (areaRefusal n)
+area-number : (n k : ℕ) → areaRefusal n k ≢ 0 → Refusal (areaRefusal n k)
 unfolding areaRefusal
-area-number n = test Refusal (ltb 0 n) no-stack (none Refusal)
+area-number n k = test Refusal (ltb 0 n) no-stack (test Refusal (leb n k) second-short (none Refusal))
 
-pub refusal-number : (t l : List ℕ) (n : ℕ) → refusalOf t l n ≢ 0 → Refusal (refusalOf t l n)
+pub refusal-number : (t l : List ℕ) (n k : ℕ) → refusalOf t l n k ≢ 0 → Refusal (refusalOf t l n k)
 unfolding refusalOf
-refusal-number t l n =
-    first Refusal (tableRefusal t) _ (λ h. of-table (table-number t h)) (first Refusal (inputRefusal t l) (areaRefusal n) (input-number t l) (area-number n))
+refusal-number t l n k =
+    first Refusal (tableRefusal t) _ (λ h. of-table (table-number t h)) (first Refusal (inputRefusal t l) (areaRefusal n k) (input-number t l) (area-number n k))
 
 -- ---- and each of these comes: tables of one state, terminal, nonterminal and production
 
@@ -71,9 +71,9 @@ long-input : (t l : List ℕ) → 65535 < length l → inputRefusal t l ≡ 25
 unfolding inputRefusal
 long-input t l h = rw (lt-leb (length l) 65535 h)
 
-pub refusal-comes : {k : ℕ} → Refusal k → (t l : List ℕ) × (n : ℕ) × (refusalOf t l n ≡ k)
+pub refusal-comes : {i : ℕ} → Refusal i → (t l : List ℕ) × (n k : ℕ) × (refusalOf t l n k ≡ i)
 unfolding refusalOf inputRefusal areaRefusal inputOk terminalOk allBelow
-refusal-comes (of-table r) = let t = table-comes r in (t .0, [], 0, go r (t .1))
+refusal-comes (of-table r) = let t = table-comes r in (t .0, [], 0, 0, go r (t .1))
   where
     go : {m k : ℕ} → TableRefusal k → m ≡ k → firstRefusal m 27 ≡ k
     go table-short e = rw e
@@ -81,6 +81,7 @@ refusal-comes (of-table r) = let t = table-comes r in (t .0, [], 0, go r (t .1))
     go production-wrong e = rw e
     go cell-wrong e = rw e
     go entry-wrong e = rw e
-refusal-comes input-long = (small 1 0 0, replicate 65536 0, 0, rw (small-passes, long-input (small 1 0 0) (replicate 65536 0) (rw length-replicate (omega arith))))
-refusal-comes terminal-wrong = (small 1 0 0, 0 ∷ [], 0, rw small-passes refl)
-refusal-comes no-stack = (small 1 0 0, [], 0, rw small-passes refl)
+refusal-comes input-long = (small 1 0 0, replicate 65536 0, 0, 0, rw (small-passes, long-input (small 1 0 0) (replicate 65536 0) (rw length-replicate (omega arith))))
+refusal-comes terminal-wrong = (small 1 0 0, 0 ∷ [], 0, 0, rw small-passes refl)
+refusal-comes no-stack = (small 1 0 0, [], 0, 0, rw small-passes refl)
+refusal-comes second-short = (small 1 0 0, [], 1, 0, rw small-passes refl)

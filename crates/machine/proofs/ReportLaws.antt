@@ -1,54 +1,87 @@
 -- The parts of a faithful reading's report, and that no two reports have the same numbers.
 use Prim.Native.Nat.{ℕ, _+_}
-use mathlib.Core.Path.{_≡_, refl, ap}
-use mathlib.Core.List.{List, reverse}
-use lib.ListN.{length, getD, length-reverse}
+use mathlib.Core.Path.{_≡_, refl, sym, ap, _∙_}
+use mathlib.Core.Logic.{_≢_}
+use mathlib.Core.List.{List, _++_, reverse}
+use lib.ListN.{length, getD, length-reverse, length-append, length-replicate}
 use lib.Seq.{take-at}
 use native.Mathlib.Omega.{arith}
+use Rattle.sets.specs.Bit.{bit, count}
 use Rattle.sets.proofs.CoveredLaws.{covered-length, covered-exact}
-pub use Rattle.machine.specs.Report.{Report, refused, ended, wrong-at, numbersOf, Reading, numberOf, stepsOf, depthOf, productionsOf, positionOf}
-pub use Rattle.machine.specs.Faithful.{Stops, accepted-here, wrong-here, no-steps, list-full, broken-here, stack-full, Reports, counts, expects, Faithful}
+use Rattle.tables.specs.Layout.{terminals}
+use Rattle.machine.specs.Exploration.{Offer}
+pub use Rattle.machine.specs.Report.{Report, refused, ended, wrong-at, unknown-at, numbersOf, Reading, numberOf, stepsOf, depthOf, productionsOf, positionOf, expectedOf, sizeOf}
+pub use Rattle.machine.specs.Faithful.{Stops, accepted-here, wrong-here, no-steps, list-full, broken-here, stack-full, Reports, counts, expects, unknown, Faithful}
 use Rattle.machine.proofs.LrMachineLaws.{Config, conf, depth, listed, own-steps, path-last}
 
--- the numbers tell the report: they are 1, 4 or 7 in number
+-- the numbers tell the report: they are 1, 4 or 7 in number, and the first is 31 or 46 where they are 7
 pub numbers-tell : (a b : Report) → numbersOf a ≡ numbersOf b → a ≡ b
 numbers-tell (refused n) (refused m) e = let z : n ≡ m = cc in ap refused z
-numbers-tell (refused n) (ended _ _ _ _) e = let z : _≡_ {A = ℕ} 0 1 = cc in absurd (omega arith)
-numbers-tell (refused n) (wrong-at _ _ _ _ _ _) e = let z : _≡_ {A = ℕ} 0 1 = cc in absurd (omega arith)
-numbers-tell (ended _ _ _ _) (refused m) e = let z : _≡_ {A = ℕ} 0 1 = cc in absurd (omega arith)
 numbers-tell (ended n k d i) (ended n′ k′ d′ i′) e = let e₁ : n ≡ n′ = cc in let e₂ : k ≡ k′ = cc in let e₃ : d ≡ d′ = cc in let e₄ : i ≡ i′ = cc in rw (e₁, e₂, e₃, e₄)
-numbers-tell (ended _ _ _ _) (wrong-at _ _ _ _ _ _) e = let z : _≡_ {A = ℕ} 0 1 = cc in absurd (omega arith)
-numbers-tell (wrong-at _ _ _ _ _ _) (refused m) e = let z : _≡_ {A = ℕ} 0 1 = cc in absurd (omega arith)
-numbers-tell (wrong-at _ _ _ _ _ _) (ended _ _ _ _) e = let z : _≡_ {A = ℕ} 0 1 = cc in absurd (omega arith)
 numbers-tell (wrong-at k d i p s z) (wrong-at k′ d′ i′ p′ s′ z′) e =
     let e₁ : k ≡ k′ = cc in let e₂ : d ≡ d′ = cc in let e₃ : i ≡ i′ = cc in let e₄ : p ≡ p′ = cc in let e₅ : s ≡ s′ = cc in let e₆ : z ≡ z′ = cc in rw (e₁, e₂, e₃, e₄, e₅, e₆)
+numbers-tell (unknown-at k d i p) (unknown-at k′ d′ i′ p′) e = let e₁ : k ≡ k′ = cc in let e₂ : d ≡ d′ = cc in let e₃ : i ≡ i′ = cc in let e₄ : p ≡ p′ = cc in rw (e₁, e₂, e₃, e₄)
+numbers-tell (refused _) (ended _ _ _ _) e = let z : _≡_ {A = ℕ} 0 1 = cc in absurd (omega arith)
+numbers-tell (refused _) (wrong-at _ _ _ _ _ _) e = let z : _≡_ {A = ℕ} 0 1 = cc in absurd (omega arith)
+numbers-tell (refused _) (unknown-at _ _ _ _) e = let z : _≡_ {A = ℕ} 0 1 = cc in absurd (omega arith)
+numbers-tell (ended _ _ _ _) (refused _) e = let z : _≡_ {A = ℕ} 0 1 = cc in absurd (omega arith)
+numbers-tell (ended _ _ _ _) (wrong-at _ _ _ _ _ _) e = let z : _≡_ {A = ℕ} 0 1 = cc in absurd (omega arith)
+numbers-tell (ended _ _ _ _) (unknown-at _ _ _ _) e = let z : _≡_ {A = ℕ} 0 1 = cc in absurd (omega arith)
+numbers-tell (wrong-at _ _ _ _ _ _) (refused _) e = let z : _≡_ {A = ℕ} 0 1 = cc in absurd (omega arith)
+numbers-tell (wrong-at _ _ _ _ _ _) (ended _ _ _ _) e = let z : _≡_ {A = ℕ} 0 1 = cc in absurd (omega arith)
+numbers-tell (wrong-at _ _ _ _ _ _) (unknown-at _ _ _ _) e = let z : _≡_ {A = ℕ} 31 46 = cc in absurd (omega arith)
+numbers-tell (unknown-at _ _ _ _) (refused _) e = let z : _≡_ {A = ℕ} 0 1 = cc in absurd (omega arith)
+numbers-tell (unknown-at _ _ _ _) (ended _ _ _ _) e = let z : _≡_ {A = ℕ} 0 1 = cc in absurd (omega arith)
+numbers-tell (unknown-at _ _ _ _) (wrong-at _ _ _ _ _ _) e = let z : _≡_ {A = ℕ} 46 31 = cc in absurd (omega arith)
 
 abbrev part : Report → ℕ → ℕ
 part r i = getD (numbersOf r) i 0
 
-module _ {t l : List ℕ} {steps : ℕ} where
-  part-0 : {c : Config} {n : ℕ} {r : Report} → Reports t l steps c n r → part r 0 ≡ n
-  part-0 (counts n ne) = refl
-  part-0 (expects i w z e o) = refl
+-- the number of the report of an end: 31 can be reported as 46
+pub data Shown : ℕ → ℕ → Type 0 where
+  as-is : {n : ℕ} → Shown n n
+  in-place : Shown 31 46
 
-  part-1 : {c : Config} {n : ℕ} {r : Report} → Reports t l steps c n r → part r 1 ≡ steps + own-steps n
+pub shown-is : {n i k : ℕ} → Shown n i → i ≡ k → k ≢ 46 → n ≡ k
+shown-is as-is e ne = e
+shown-is in-place e ne = absurd (ne (sym e))
+
+-- the line before the position, and what is ahead, are the input
+pub record Located (t l : List ℕ) (a k : ℕ) (x : List ℕ) (r : Report) : Type 0 where
+  pub line : List ℕ
+  pub whole : line ++ x ≡ l
+  pub place : part r 4 ≡ length line
+  -- 31 carries the offer behind that line
+  pub offer : part r 0 ≡ 31 → Offer t a k line (part r 5) × (part r 6 ≡ count (bit (part r 5)) (terminals t))
+
+module _ {t l : List ℕ} {a k steps : ℕ} where
+  part-0 : {c : Config} {n : ℕ} {r : Report} → Reports t l a k steps c n r → Shown n (part r 0)
+  part-0 (counts n ne) = as-is
+  part-0 (expects u w e o) = as-is
+  part-0 (unknown u e s) = in-place
+
+  part-1 : {c : Config} {n : ℕ} {r : Report} → Reports t l a k steps c n r → part r 1 ≡ steps + own-steps n
   part-1 (counts n ne) = refl
-  part-1 (expects i w z e o) = omega arith
+  part-1 (expects u w e o) = omega arith
+  part-1 (unknown u e s) = omega arith
 
-  part-2 : {c : Config} {n : ℕ} {r : Report} → Reports t l steps c n r → part r 2 ≡ depth c
+  part-2 : {c : Config} {n : ℕ} {r : Report} → Reports t l a k steps c n r → part r 2 ≡ depth c
   part-2 (counts n ne) = refl
-  part-2 (expects i w z e o) = refl
+  part-2 (expects u w e o) = refl
+  part-2 (unknown u e s) = refl
 
-  part-3 : {c : Config} {n : ℕ} {r : Report} → Reports t l steps c n r → part r 3 ≡ listed c
+  part-3 : {c : Config} {n : ℕ} {r : Report} → Reports t l a k steps c n r → part r 3 ≡ listed c
   part-3 (counts n ne) = refl
-  part-3 (expects i w z e o) = refl
+  part-3 (expects u w e o) = refl
+  part-3 (unknown u e s) = refl
 
-  part-4 : {qs x out : List ℕ} {n : ℕ} {r : Report} → Reports t l steps (conf qs x out) n r → n ≡ 31 → part r 4 + length x ≡ length l
-  part-4 (counts n ne) z = absurd (ne z)
-  part-4 (expects i w z e o) _ = e
+  located : {qs x out : List ℕ} {n : ℕ} {r : Report} → Reports t l a k steps (conf qs x out) n r → n ≡ 31 → Located t l a k x r
+  located (counts n ne) z = absurd (ne z)
+  located (expects u w e o) _ = record { line = u; whole = e; place = refl; offer = λ _. (o, refl) }
+  located (unknown u e s) _ = record { line = u; whole = e; place = refl; offer = λ z. absurd (omega arith) }
 
-module _ {t l st li : List ℕ} {a : ℕ} {r : Reading} (f : Faithful t l st li a r) where
-  pub number-is : numberOf r ≡ f .number
+module _ {t l st li se : List ℕ} {a : ℕ} {r : Reading} (f : Faithful t l st li se a r) where
+  pub number-is : Shown (f .number) (numberOf r)
   number-is = part-0 (f .reported)
 
   pub count-is : stepsOf r ≡ f .steps + own-steps (f .number)
@@ -60,10 +93,16 @@ module _ {t l st li : List ℕ} {a : ℕ} {r : Reading} (f : Faithful t l st li 
   pub productions-are : productionsOf r ≡ f .productions
   productions-are = rw (part-3 (f .reported), f .listing) (take-at (f .productions) _ _ refl)
 
-  pub position-is : f .number ≡ 31 → positionOf r + length (f .ahead) ≡ length l
-  position-is e = part-4 (f .reported) e
+  pub located-at : f .number ≡ 31 → Located t l a (length se) (f .ahead) (r .report)
+  located-at e = located (f .reported) e
 
-  -- both areas keep their lengths
+  pub position-is : f .number ≡ 31 → positionOf r + length (f .ahead) ≡ length l
+  position-is e =
+      let z = located-at e in
+      let w = sym (length-append (z .line) (f .ahead)) ∙ ap length (z .whole) in
+      omega (arith, z .place, w)
+
+  -- the areas keep their lengths
   pub stack-long : length (r .stack) ≡ length st
   stack-long =
       let d = path-last t (f .path) in
@@ -71,3 +110,6 @@ module _ {t l st li : List ℕ} {a : ℕ} {r : Reading} (f : Faithful t l st li 
 
   pub list-long : length (r .list) ≡ length li
   list-long = rw (f .listing, ← covered-exact (f .productions) li) (covered-length (length (f .productions)) (f .productions) li (omega arith) (f .room))
+
+  pub second-long : length (r .second) ≡ length se
+  second-long = rw (f .cleared) (length-replicate (length se) 0)

@@ -12,7 +12,7 @@ use Rattle.machine.specs.Faithful.{Allowed, Stops, accepted-here, wrong-
 use Rattle.machine.proofs.LrMachineLaws.{Kind, kind, is-wrong, is-shift, is-accept, is-reduce, Config, conf, depth, reduces, Step, Path, pops-all, no-next, Ends, accepts, wrong, broken, one-deeper}
 
 -- the terminals still to be read
-abbrev unread : Config → ℕ
+abbrev pub unread : Config → ℕ
 unread (conf qs x out) = length x
 
 drop-some : (n : ℕ) (qs : List ℕ) → n < length qs → (p : ℕ) × (ps : List ℕ) × (drop n qs ≡ p ∷ ps)
@@ -28,6 +28,10 @@ module _ (t : List ℕ) where
   reads-on : {c c′ : Config} → Step t c c′ → unread c′ ≤ unread c
   reads-on (Step.shift {x = x} s e h k) = rest-shorter x
   reads-on (Step.reduce r p ps s e n d f h) = omega arith
+
+  pub path-unread : {n m : ℕ} {c c′ : Config} → Path t n m c c′ → unread c′ ≤ unread c
+  path-unread Path.none = omega arith
+  path-unread (Path.more s p) = let a = reads-on s in let b = path-unread p in omega arith
 
 module _ (t : List ℕ) (places room : ℕ) where
   abbrev allowed : ℕ → Allowed

@@ -15,12 +15,12 @@ pub data Below (n : ℕ) : List ℕ → Type 0 where
   none : Below n []
   more : {q : ℕ} {qs : List ℕ} → q < n → Below n qs → Below n (q ∷ qs)
 
-below-drop : {n : ℕ} (k : ℕ) {qs : List ℕ} → Below n qs → Below n (drop k qs)
+pub below-drop : {n : ℕ} (k : ℕ) {qs : List ℕ} → Below n qs → Below n (drop k qs)
 below-drop zero b = b
 below-drop (suc k) none = none
 below-drop (suc k) (more h b) = below-drop k b
 
-below-top : {n q : ℕ} {qs : List ℕ} → Below n (q ∷ qs) → q < n
+pub below-top : {n q : ℕ} {qs : List ℕ} → Below n (q ∷ qs) → q < n
 below-top (more h b) = h
 
 -- ---- the terminals from place i on
@@ -64,7 +64,7 @@ module _ (t l : List ℕ) (n : ℕ) (pa : Passed t l n) where
   step-sound (sound i b e) (Step.shift s ec h k) = sound (i + 1) (after-shift pa b i e ec h k) (sym (rest-drop i l) ∙ ap rest e)
   step-sound (sound i b e) (Step.reduce r p ps s ec ne d f h) = sound i (after-reduce pa b i e r ec ne d f) e
 
-  path-sound : {k m : ℕ} {c c′ : Config} → Sound t l c → Path t k m c c′ → Sound t l c′
+  pub path-sound : {k m : ℕ} {c c′ : Config} → Sound t l c → Path t k m c c′ → Sound t l c′
   path-sound s Path.none = s
   path-sound s (Path.more x p) = path-sound (step-sound s x) p
 

@@ -35,12 +35,12 @@ own-left (list-full _ _ _) = omega arith
 own-left (broken-here _ _ _) = omega arith
 own-left (stack-full _ _ _ _) = omega arith
 
-pub count-most : {t l st li : List ℕ} {a : ℕ} {r : Reading} → Reads t l st li a r → stepsOf r ≤ a
+pub count-most : {t l st li se : List ℕ} {a : ℕ} {r : Reading} → Reads t l st li se a r → stepsOf r ≤ a
 count-most (refuses _ _) = omega arith
 count-most (reads _ f) = omega (arith, count-is f, own-left (f .why), f .budget)
 
 -- so a limit of w bits gives a count of w bits
-pub count-in : {t l st li : List ℕ} {a : ℕ} (w : ℕ) {r : Reading} → a < 2 ^ w → Reads t l st li a r → stepsOf r < 2 ^ w
+pub count-in : {t l st li se : List ℕ} {a : ℕ} (w : ℕ) {r : Reading} → a < 2 ^ w → Reads t l st li se a r → stepsOf r < 2 ^ w
 count-in w h d = omega (arith, h, count-most d)
 
 -- ---- a count of w bits is the count
@@ -129,26 +129,26 @@ module _ (w : ℕ) (t l : List ℕ) (a : ℕ) where
 
 -- ---- so a reading in w bits is the reading under w bits of the limit
 
-module _ (w : ℕ) (t l st li : List ℕ) (a : ℕ) where
-  some-in : ReadsIn w t l st li a (reading t l st li (a % 2 ^ w))
-  some-in = go (ℕ-discrete (refusalOf t l (length st)) 0)
+module _ (w : ℕ) (t l st li se : List ℕ) (a : ℕ) where
+  some-in : ReadsIn w t l st li se a (reading t l st li se (a % 2 ^ w))
+  some-in = go (ℕ-discrete (refusalOf t l (length st) (length se)) 0)
     where
-      go : Dec (refusalOf t l (length st) ≡ 0) → ReadsIn w t l st li a (reading t l st li (a % 2 ^ w))
-      go (yes e) = rw (unrefused t l st li (a % 2 ^ w) e (run t l (a % 2 ^ w) (start st li)) refl) (widths.reads e (runs w t l a (a % 2 ^ w) (start st li) (start-none st li (a % 2 ^ w))))
-      go (no n) = rw (refused-is t l st li (a % 2 ^ w) (refusalOf t l (length st)) refl n) (widths.refuses refl n)
+      go : Dec (refusalOf t l (length st) (length se) ≡ 0) → ReadsIn w t l st li se a (reading t l st li se (a % 2 ^ w))
+      go (yes e) = rw (unrefused t l st li se (a % 2 ^ w) e (run t l (a % 2 ^ w) (start st li)) refl) (widths.reads e (runs w t l a (a % 2 ^ w) (start st li) (start-none st li (a % 2 ^ w))))
+      go (no n) = rw (refused-is t l st li se (a % 2 ^ w) (refusalOf t l (length st) (length se)) refl n) (widths.refuses refl n)
 
-  pub only-in : (r : Reading) → ReadsIn w t l st li a r → r ≡ reading t l st li (a % 2 ^ w)
-  only-in r (widths.refuses {n} e ne) = sym (refused-is t l st li (a % 2 ^ w) n e ne)
-  only-in r (widths.reads {o} e d) = sym (unrefused t l st li (a % 2 ^ w) e o (sym (only-run w t l a d (a % 2 ^ w) (start-none st li (a % 2 ^ w)))))
+  pub only-in : (r : Reading) → ReadsIn w t l st li se a r → r ≡ reading t l st li se (a % 2 ^ w)
+  only-in r (widths.refuses {n} e ne) = sym (refused-is t l st li se (a % 2 ^ w) n e ne)
+  only-in r (widths.reads {o} e d) = sym (unrefused t l st li se (a % 2 ^ w) e o (sym (only-run w t l a d (a % 2 ^ w) (start-none st li (a % 2 ^ w)))))
 
   -- "One proof serves either width": this one is for every w
-  pub modulo : (r : Reading) → ReadsIn w t l st li a r ↔ Reads t l st li (a % 2 ^ w) r
-  modulo r = (λ d. reads-exactly t l st li (a % 2 ^ w) r .1 (only-in r d), λ d. rw (reads-exactly t l st li (a % 2 ^ w) r .0 d) some-in)
+  pub modulo : (r : Reading) → ReadsIn w t l st li se a r ↔ Reads t l st li se (a % 2 ^ w) r
+  modulo r = (λ d. reads-exactly t l st li se (a % 2 ^ w) r .1 (only-in r d), λ d. rw (reads-exactly t l st li se (a % 2 ^ w) r .0 d) some-in)
 
-  pub in-width : a < 2 ^ w → (r : Reading) → ReadsIn w t l st li a r ↔ Reads t l st li a r
+  pub in-width : a < 2 ^ w → (r : Reading) → ReadsIn w t l st li se a r ↔ Reads t l st li se a r
   in-width f r = rw (mod-eq-of-lt f) at (modulo r)
 
 pub old-limits : OldLimits
-old-limits t l st li a f r =
+old-limits t l st li se a f r =
     let g : a < 2 ^ 64 = omega (arith, f) in
-    (λ d. in-width 64 t l st li a g r .1 (in-width 32 t l st li a f r .0 d), λ d. in-width 32 t l st li a f r .1 (in-width 64 t l st li a g r .0 d))
+    (λ d. in-width 64 t l st li se a g r .1 (in-width 32 t l st li se a f r .0 d), λ d. in-width 32 t l st li se a f r .1 (in-width 64 t l st li se a g r .0 d))

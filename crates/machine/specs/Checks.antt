@@ -1,4 +1,4 @@
--- "The reader refuses": 21 to 24 and 44 for the table, 25 and 26 for the input, 27 for the stack area, in this order.
+-- "The reader refuses": 21 to 24 and 44 for the table, 25 and 26 for the input, 27 and 45 for the stack areas, in this order.
 use Prim.Native.Nat.{ℕ, _-_}
 use mathlib.Core.List.{List}
 use mathlib.Core.Bool.{Bool, true, false, not, cond, _&&_}
@@ -60,7 +60,7 @@ terminalOk t b = ltb 0 b && ltb b (terminals t)
 unfoldable pub inputOk : List ℕ → List ℕ → Bool
 inputOk t l = allBelow (length l) (λ i. terminalOk t (getD l i 0))
 
--- the number of the first refusal that applies, or 0: of the table, of the input, of a stack area of n places, and of all three
+-- the number of the first refusal that applies, or 0: of the table, of the input, of a stack area of n places and a second one of k, and of all
 unfoldable pub tableRefusal : List ℕ → ℕ
 tableRefusal t =
     unless (leb 4 (length t)) 21
@@ -73,11 +73,12 @@ tableRefusal t =
 unfoldable pub inputRefusal : List ℕ → List ℕ → ℕ
 inputRefusal t l = unless (leb (length l) 65535) 25 (unless (inputOk t l) 26 0)
 
-unfoldable pub areaRefusal : ℕ → ℕ
-areaRefusal n = unless (ltb 0 n) 27 0
+-- "45 the second area is shorter than the first, after 27"; the two never both apply
+unfoldable pub areaRefusal : ℕ → ℕ → ℕ
+areaRefusal n k = unless (ltb 0 n) 27 (unless (leb n k) 45 0)
 
-unfoldable pub refusalOf : List ℕ → List ℕ → ℕ → ℕ
-refusalOf t l n = firstRefusal (tableRefusal t) (firstRefusal (inputRefusal t l) (areaRefusal n))
+unfoldable pub refusalOf : List ℕ → List ℕ → ℕ → ℕ → ℕ
+refusalOf t l n k = firstRefusal (tableRefusal t) (firstRefusal (inputRefusal t l) (areaRefusal n k))
 
 -- the numbers of the refusals: just these come, by proofs/RefusalLaws.antt
 pub data TableRefusal : ℕ → Type 0 where
@@ -92,3 +93,4 @@ pub data Refusal : ℕ → Type 0 where
   input-long : Refusal 25
   terminal-wrong : Refusal 26
   no-stack : Refusal 27
+  second-short : Refusal 45

@@ -2,16 +2,18 @@
 -- The reader's machine: a stack of states in a lent area, a list of productions in another, and a step limit.
 -- A step is the paper's move, the step limit its allowance, the position its place, the expected set its offer.
 use Prim.Native.Nat.{ℕ, zero, suc, _+_, _-_, _*_, _^_}
-use mathlib.Core.List.{List}
-use mathlib.Core.Bool.{cond}
-use lib.ListN.{length, getD, set}
+use mathlib.Core.List.{List, [], _∷_, _++_}
+use mathlib.Core.Bool.{Bool, cond, _||_}
+use lib.ListN.{length, getD, set, take, replicate}
 use lib.Dec.{ltb, eqb}
 use lib.Count.{ones}
+use Rattle.sets.specs.Bit.{one-if}
+use Rattle.sets.specs.Tests.{allBelow}
 use Rattle.tables.specs.Layout.{terminals, leftOf, lengthOf, accept, cellOf}
 use Rattle.machine.specs.Checks.{refusalOf}
-use Rattle.machine.specs.Report.{Report, refused, wrong-at, Reading}
+use Rattle.machine.specs.Report.{Report, refused, wrong-at, unknown-at, Reading}
 
--- both areas, how many places of each are in use, the position in the input and the steps made
+-- stack and list area, how many places of each are in use, the position in the input and the steps made
 pub record Machine : Type 0 where
   pub stack : List ℕ
   pub list : List ℕ
@@ -90,30 +92,64 @@ run t l (suc k) m =
 unfoldable pub start : List ℕ → List ℕ → Machine
 start s rs = record { stack = set s 0 0; list = rs; depth = 1; listed = 0; position = 0; steps = 0 }
 
-abbrev pub bitIf : ℕ → ℕ
-bitIf zero = 0
-bitIf (suc _) = 1
+-- ---- fresh readings
 
--- the terminals below k whose cell in row q is not 0, as the bits of a word
-unfoldable pub expectedWord : List ℕ → ℕ → ℕ → ℕ
-expectedWord t q zero = 0
-expectedWord t q (suc k) = bitIf (cellOf t q k) * 2 ^ k + expectedWord t q k
+-- a line with terminal m behind it; for 0 the line alone
+abbrev pub withNext : List ℕ → ℕ → List ℕ
+withNext line zero = line
+withNext line (suc m) = line ++ suc m ∷ []
+
+-- the fresh reading for terminal m: the same run, with a stack area of k places, and a list that is never full
+unfoldable pub fresh : List ℕ → ℕ → ℕ → List ℕ → ℕ → Outcome
+fresh t a k line m = run t (withNext line m) a (start (replicate k 0) (replicate a 0))
+
+-- its number: 0 also where it has shifted m, whatever came then
+unfoldable pub freshNumber : List ℕ → ℕ → ℕ → List ℕ → ℕ → ℕ
+freshNumber t a k line m = cond (ltb (length line) (fresh t a k line m .final .position)) 0 (fresh t a k line m .number)
+
+-- not cut short
+unfoldable pub decided : ℕ → Bool
+decided n = eqb n 0 || eqb n 31
+
+-- the numbers below n that have p, as the bits of a word
+unfoldable pub wordOf : (ℕ → Bool) → ℕ → ℕ
+wordOf p zero = 0
+wordOf p (suc k) = one-if (p k) * 2 ^ k + wordOf p k
+
+-- the terminals whose fresh reading shifts them, or for 0 accepts
+unfoldable pub expectedWord : List ℕ → ℕ → ℕ → List ℕ → ℕ
+expectedWord t a k line = wordOf (λ m. eqb (freshNumber t a k line m) 0) (terminals t)
+
+-- ---- the report
 
 -- the report of an end other than 31
 abbrev pub endedAt : ℕ → Machine → Report
 endedAt n m = Report.ended n (m .steps) (m .depth) (m .listed)
 
--- the report of 31, with the expected set of the top state
-unfoldable pub wrongAt : List ℕ → Machine → Report
-wrongAt t m =
-    let word = expectedWord t (topOf (m .stack) (m .depth)) (terminals t) in
-    wrong-at (m .steps) (m .depth) (m .listed) (m .position) word (ones word)
+-- the report of 31 with an expected set
+unfoldable pub expectedAt : ℕ → Machine → Report
+expectedAt word m = wrong-at (m .steps) (m .depth) (m .listed) (m .position) word (ones word)
 
-unfoldable pub reportOf : List ℕ → Outcome → Report
-reportOf t o = cond (eqb (o .number) 31) (wrongAt t (o .final)) (endedAt (o .number) (o .final))
+-- the report where some fresh reading is cut short
+unfoldable pub unknownAt : Machine → Report
+unknownAt m = unknown-at (m .steps) (m .depth) (m .listed) (m .position)
 
-unfoldable pub reading : List ℕ → List ℕ → List ℕ → List ℕ → ℕ → Reading
-reading t l st li a =
-    cond (eqb (refusalOf t l (length st)) 0)
-    (record { report = reportOf t (run t l a (start st li)); stack = run t l a (start st li) .final .stack; list = run t l a (start st li) .final .list })
-    (record { report = refused (refusalOf t l (length st)); stack = st; list = li })
+-- the report of 31, or of 46 in its place
+unfoldable pub wrongAt : List ℕ → List ℕ → ℕ → ℕ → Machine → Report
+wrongAt t l a k m =
+    cond (allBelow (terminals t) (λ x. decided (freshNumber t a k (take (m .position) l) x)))
+    (expectedAt (expectedWord t a k (take (m .position) l)) m)
+    (unknownAt m)
+
+unfoldable pub reportOf : List ℕ → List ℕ → ℕ → ℕ → Outcome → Report
+reportOf t l a k o = cond (eqb (o .number) 31) (wrongAt t l a k (o .final)) (endedAt (o .number) (o .final))
+
+-- the reading that a run leads to, with a second area of k places
+unfoldable pub readingOf : List ℕ → List ℕ → ℕ → ℕ → Outcome → Reading
+readingOf t l a k o = record { report = reportOf t l a k o; stack = o .final .stack; list = o .final .list; second = replicate k 0 }
+
+unfoldable pub reading : List ℕ → List ℕ → List ℕ → List ℕ → List ℕ → ℕ → Reading
+reading t l st li se a =
+    cond (eqb (refusalOf t l (length st) (length se)) 0)
+    (readingOf t l a (length se) (run t l a (start st li)))
+    (record { report = refused (refusalOf t l (length st) (length se)); stack = st; list = li; second = se })

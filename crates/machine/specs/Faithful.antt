@@ -1,43 +1,29 @@
 -- Demand 2 for the reader: a reading that is not refused makes the steps of the LR machine, each end comes only where the paper has it come,
--- and the report and both areas are then those of the machine: `faithful` and `only-reading` of proofs/ReadsLaws.antt.
-use Prim.Native.Nat.{ℕ, suc, _+_, _<_, _≤_}
+-- and the report and the areas are then those of the machine: `faithful` and `only-reading` of proofs/ReadsLaws.antt.
+use Prim.Native.Nat.{ℕ, _+_, _≤_}
 use mathlib.Core.Path.{_≡_}
-use mathlib.Core.Logic.{_≢_, _↔_}
+use mathlib.Core.Logic.{_≢_}
 use mathlib.Core.List.{List, [], _∷_, _++_, reverse}
-use lib.ListN.{length, drop}
-use Rattle.sets.specs.Bit.{bit, count, Has}
+use lib.ListN.{length, drop, replicate}
+use Rattle.sets.specs.Bit.{bit, count}
 use Rattle.sets.specs.Lists.{covered}
-use Rattle.tables.specs.Layout.{terminals, cellOf}
-use Rattle.machine.specs.LrMachine.{Config, conf, depth, listed, Reduces, Step, Path, Ends, own-steps}
-use Rattle.machine.specs.Report.{Report, ended, wrong-at, Reading}
+use Rattle.tables.specs.Layout.{terminals}
+use Rattle.machine.specs.LrMachine.{Config, conf, depth, listed, Path, own-steps}
+pub use Rattle.machine.specs.Stops.{Allowed, Stops, accepted-here, wrong-here, no-steps, list-full, broken-here, stack-full}
+use Rattle.machine.specs.Exploration.{Offer, CutShort}
+use Rattle.machine.specs.Report.{Report, ended, wrong-at, unknown-at, Reading}
 
--- what a reading may still use: steps, and all places of the stack area and of the list area
-pub record Allowed : Type 0 where
-  pub steps : ℕ
-  pub stack : ℕ
-  pub list : ℕ
+-- what is reported after so many steps at a configuration with the end of a number; k is the length of the second area
+pub data Reports (t input : List ℕ) (limit k steps : ℕ) : Config → ℕ → Report → Type 0 where
+  counts : {c : Config} (n : ℕ) → n ≢ 31 → Reports t input limit k steps c n (ended n (steps + own-steps n) (depth c) (listed c))
+  -- 31: "place from 0", which is the length of the line before it, and the offer as a word, "and how many they are"
+  expects : {qs x out : List ℕ} (line : List ℕ) (word : ℕ) → line ++ x ≡ input → Offer t limit k line word
+      → Reports t input limit k steps (conf qs x out) 31 (wrong-at steps (length qs) (length out) (length line) word (count (bit word) (terminals t)))
+  -- "46 in place of 31 when a fresh reading stops on 32, 33 or 35"
+  unknown : {qs x out : List ℕ} (line : List ℕ) → line ++ x ≡ input → CutShort t limit k line
+      → Reports t input limit k steps (conf qs x out) 31 (unknown-at steps (length qs) (length out) (length line))
 
--- why the machine stops at a configuration, with the number of the end: "tested in this order before a move" are 31, 32, 34, 35, 33
-pub data Stops (t : List ℕ) (a : Allowed) (c : Config) : ℕ → Type 0 where
-  accepted-here : Ends t c 0 → 0 < a .steps → Stops t a c 0
-  wrong-here : Ends t c 31 → Stops t a c 31
-  no-steps : (Ends t c 31 → ⊥) → a .steps ≡ 0 → Stops t a c 32
-  list-full : {r : ℕ} → Reduces t r c → 0 < a .steps → listed c ≡ a .list → Stops t a c 34
-  broken-here : Ends t c 35 → 0 < a .steps → listed c < a .list → Stops t a c 35
-  stack-full : {c′ : Config} → Step t c c′ → 0 < a .steps → listed c′ ≤ a .list → depth c′ ≡ suc (a .stack) → Stops t a c 33
-
--- "the offer: a word with the bits of the marks whose cell in the top row is not 0, and how many they are"
-pub record Offer (t : List ℕ) (q word size : ℕ) : Type 0 where
-  pub members : (m : ℕ) → Has word m ↔ ((m < terminals t) × (cellOf t q m ≢ 0))
-  pub many : size ≡ count (bit word) (terminals t)
-
--- what is reported after so many steps at a configuration with the end of a number; for 31 "place from 0" and the offer too
-pub data Reports (t input : List ℕ) (steps : ℕ) : Config → ℕ → Report → Type 0 where
-  counts : {c : Config} (n : ℕ) → n ≢ 31 → Reports t input steps c n (ended n (steps + own-steps n) (depth c) (listed c))
-  expects : {q : ℕ} {qs x out : List ℕ} (position word size : ℕ) → position + length x ≡ length input → Offer t q word size
-      → Reports t input steps (conf (q ∷ qs) x out) 31 (wrong-at steps (length (q ∷ qs)) (length out) position word size)
-
-pub record Faithful (t input stack list : List ℕ) (limit : ℕ) (r : Reading) : Type 0 where
+pub record Faithful (t input stack list second : List ℕ) (limit : ℕ) (r : Reading) : Type 0 where
   -- so many steps lead from state 0 before the whole input to this configuration
   pub steps : ℕ
   pub most : ℕ
@@ -45,7 +31,7 @@ pub record Faithful (t input stack list : List ℕ) (limit : ℕ) (r : Reading) 
   pub ahead : List ℕ
   pub productions : List ℕ
   pub path : Path t steps most (conf (0 ∷ []) input []) (conf states ahead productions)
-  -- within both areas on the way
+  -- within stack and list on the way
   pub within : most ≤ length stack
   pub room : length productions ≤ length list
   -- there the machine stops, with what is left of the step limit
@@ -54,7 +40,9 @@ pub record Faithful (t input stack list : List ℕ) (limit : ℕ) (r : Reading) 
   pub number : ℕ
   pub why : Stops t (record { steps = left; stack = length stack; list = length list }) (conf states ahead productions) number
   -- the report is of that place
-  pub reported : Reports t input steps (conf states ahead productions) number (r .report)
+  pub reported : Reports t input limit (length second) steps (conf states ahead productions) number (r .report)
   -- "used places of stack and list hold states and rules", "a place popped becomes 0", "never-used places are unchanged"
   pub stacked : r .stack ≡ covered most (reverse states) stack
   pub listing : r .list ≡ productions ++ drop (length productions) list
+  -- "a second stack area, zero over its whole length after any end"
+  pub cleared : r .second ≡ replicate (length second) 0

@@ -1,5 +1,7 @@
 pub mod LrMachine
 pub mod Checks
+pub mod Stops
+pub mod Exploration
 pub mod Report
 pub mod Faithful
 pub mod Reads

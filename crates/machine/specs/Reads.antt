@@ -1,4 +1,4 @@
--- The reader's definition for every table, input, pair of areas and step limit: it refuses and changes nothing, or its reading is faithful.
+-- The reader's definition for every table, input, step limit and three areas: it refuses and changes nothing, or its reading is faithful.
 -- `reading` of ComputedRun.antt is the one reading of this kind: `reads-exactly` of proofs/ReadsLaws.antt.
 use Prim.Native.Nat.{ℕ}
 use mathlib.Core.Path.{_≡_}
@@ -9,7 +9,8 @@ use Rattle.machine.specs.Checks.{refusalOf}
 use Rattle.machine.specs.Report.{refused, Reading}
 use Rattle.machine.specs.Faithful.{Faithful}
 
-pub data Reads (t input stack list : List ℕ) (limit : ℕ) : Reading → Type 0 where
+pub data Reads (t input stack list second : List ℕ) (limit : ℕ) : Reading → Type 0 where
   -- "All change nothing"
-  refuses : {n : ℕ} → refusalOf t input (length stack) ≡ n → n ≢ 0 → Reads t input stack list limit (record { report = refused n; stack = stack; list = list })
-  reads : {r : Reading} → refusalOf t input (length stack) ≡ 0 → Faithful t input stack list limit r → Reads t input stack list limit r
+  refuses : {n : ℕ} → refusalOf t input (length stack) (length second) ≡ n → n ≢ 0
+      → Reads t input stack list second limit (record { report = refused n; stack = stack; list = list; second = second })
+  reads : {r : Reading} → refusalOf t input (length stack) (length second) ≡ 0 → Faithful t input stack list second limit r → Reads t input stack list second limit r

@@ -1,20 +1,25 @@
 // Runs a parse table over an input.
+use exploration::Expected;
 use steps::Next;
 use steps::State;
 use steps::Stop;
 use table_checks::Refusal;
 use table_checks::Verdict;
 use tables::Shape;
+use unlisted_steps::Spot;
 ghost use mathlib.Core.Path.{_≡_};
-ghost use mathlib.Core.List.{List, _∷_};
-ghost use Prim.Native.Nat.{ℕ, _+_, _*_, _^_, _<_, _≤_};
-ghost use lib.ListN.{length};
-ghost use Rattle.machine.specs.Checks.{refusalOf};
+ghost use mathlib.Core.Bool.{true};
+ghost use mathlib.Core.List.{_∷_};
+ghost use Prim.Native.Nat.{_+_, _^_, _<_, _≤_};
+ghost use lib.ListN.{length, take, replicate};
+ghost use Rattle.machine.specs.Checks.{inputOk, refusalOf};
 ghost use Rattle.machine.specs.Report.{numbersOf};
-ghost use Rattle.machine.specs.ComputedRun.{run as runs, start, wrongAt, reading};
+ghost use Rattle.machine.specs.ComputedRun.{Machine, Outcome, run as runs, start, wrongAt, reportOf, reading};
+ghost use Rattle.machine.proofs.Checked.{Checked, Passed};
+ghost use Rattle.exploration.specs.Expected.{Explores};
 ghost use Rattle.steps.specs.State.{machineOf, stopNumber, Held};
 ghost use Rattle.parser.specs.Answer.{countsOf, numbers, ReadsAs};
-ghost use Rattle.parser.specs.Phases.{reached, acceptedAt, countBits, Countable, Ends};
+ghost use Rattle.parser.specs.Phases.{reached, acceptedAt, countBits, Countable, At, Says, Ends, Advances, startState, checkpointAt, noCheckpoint, ResumesIn, Resumes, Explorable, tells};
 ghost use Rattle.parser.specs.Terminals.{Lists};
 
 // The steps made, the stack places in use and the productions listed.
@@ -28,11 +33,16 @@ pub struct Counts {
 pub enum Answer {
     Refused(Refusal),
     Accepted(Counts),
-    // No action for the terminal at a position, with the expected set and its size.
+    // No action for the terminal at a position, with the expected set, the terminals that can follow, and its size.
     NoAction {
         position: usize,
         expected: u64,
         size: u32,
+        counts: Counts,
+    },
+    // No action either, but a fresh reading was cut short: which terminals can follow is not known.
+    ExpectedUnknown {
+        position: usize,
         counts: Counts,
     },
     StepLimit(Counts),
@@ -40,6 +50,30 @@ pub enum Answer {
     ListFull(Counts),
     // A reduction that no table of the maker asks for.
     Broken(Counts),
+}
+
+// How a run ends: with its answer, or at a position with no action, where the expected set is yet to be found.
+enum Ending {
+    Final(Answer),
+    Wrong(usize, Counts),
+}
+
+// What comes of some steps: an end, or none, with no step left.
+enum Progress {
+    Ended(Ending),
+    Paused(State),
+}
+
+// Where a run has been: a fresh reading can go on from there. The second area holds the stack.
+struct Checkpoint {
+    spot: Spot,
+    position: usize,
+}
+
+// How a run ended, and its last checkpoint.
+struct Course {
+    end: Ending,
+    checkpoint: Checkpoint,
 }
 
 fn count(s: State) -> Counts
@@ -50,21 +84,6 @@ fn count(s: State) -> Counts
         steps: (s.position + s.listed) as u64,
         depth: s.depth,
         listed: s.listed,
-    }
-}
-
-fn no_action(cells: &[u16], z: Shape, s: State) -> Answer
-    requires { ⌜ (z .terminals ≤ 64) × (s .top * z .width + z .terminals ≤ length (now cells)) × (Countable countBits s) ⌝ }
-    ensures { λ r. ⌜ ((t st li : List ℕ) → Held t (now (cells .entry)) st li z s → numbers r ≡ numbersOf (wrongAt t (machineOf st li s))) ⌝ }
-{
-    let word = steps::expected(cells, z, s.top);
-    let n = sets::size(word);
-    let c = count(s);
-    Answer::NoAction {
-        position: s.position,
-        expected: word,
-        size: n,
-        counts: c,
     }
 }
 
@@ -92,42 +111,266 @@ fn accepted(s: State) -> Answer
     })
 }
 
-// The reading of an input by a table, both checked.
-fn run(table: &[u16], input: &[u8], stack: &mut [u16], list: &mut [u16], step_limit: u64) -> Answer
-    requires { ⌜ refusalOf (now table) (now input) (length (now stack)) ≡ 0 ⌝ }
-    ensures { λ r. ⌜ Ends (now (table .entry)) (runs (now (table .entry)) (now (input .entry)) «step_limit» (start (now (stack .entry)) (now (list .entry)))) r (now (stack .exit)) (now (list .exit)) ⌝ }
+// The steps from a state, as many as it has left.
+fn advance(
+    table: &[u16],
+    cells: &[u16],
+    input: &[u8],
+    stack: &mut [u16],
+    list: &mut [u16],
+    z: Shape,
+    from: State,
+) -> Progress
+    requires { ⌜ (Passed (now table) (now input) (length (now stack))) × (length (now input) ≤ 65535) × (Held (now table) (now cells) (now stack) (now list) z from) × (from .position + from .listed + from .left < 2 ^ countBits) ⌝ }
+    ensures { λ r. ⌜ Advances (now (table .entry)) (now (input .entry)) (now (cells .entry)) z from (machineOf (now (stack .entry)) (now (list .entry)) from) (now (stack .exit)) (now (list .exit)) r ⌝ }
 {
-    let z = tables::shape_of(table);
-    let cells = tables::cells_of(table, z);
-    stack[0] = 0;
-    let mut s = State {
-        depth: 1,
-        listed: 0,
-        position: 0,
-        left: step_limit,
-        top: 0,
-    };
+    let mut s = from;
     loop {
         let a = steps::action(cells, input, z, s);
         if a == 0 {
-            return no_action(cells, z, s);
+            return Progress::Ended(Ending::Wrong(s.position, count(s)));
         }
         if s.left == 0 {
-            return Answer::StepLimit(count(s));
+            return Progress::Paused(s);
         }
         let n = steps::step(table, cells, stack, list, z, s, a);
         match n {
             Next::Ended(e) => {
-                return stopped(e, s);
+                return Progress::Ended(Ending::Final(stopped(e, s)));
             }
             Next::Moved(t) => {
                 s = t;
             }
             Next::Accepted => {
-                return accepted(s);
+                return Progress::Ended(Ending::Final(accepted(s)));
             }
         }
     }
+}
+
+// How many of the steps left are made before the next checkpoint: so many that a copy of the stack costs little beside them.
+fn portion(left: u64, depth: usize) -> u64
+    ensures { λ r. ⌜ (r ≤ left) × (0 < left → 0 < r) ⌝ }
+{
+    if left < 512 {
+        return left;
+    }
+    if depth < 512 {
+        return 512;
+    }
+    if (left as usize) < depth {
+        left
+    } else {
+        depth as u64
+    }
+}
+
+// The first n places of the stack, copied.
+fn copy(stack: &[u16], second: &mut [u16], n: usize)
+    requires { ⌜ (n ≤ length (now stack)) × (n ≤ length (now second)) ⌝ }
+    ensures { λ _. ⌜ take n (now (second .exit)) ≡ take n (now (stack .entry)) ⌝ }
+{
+    let mut i: usize = 0;
+    while i < n {
+        second[i] = stack[i];
+        i += 1;
+    }
+}
+
+// State 0 alone, before the first step.
+fn at_start() -> State
+    ensures { λ r. ⌜ r ≡ startState ⌝ }
+{
+    State {
+        depth: 1,
+        listed: 0,
+        position: 0,
+        left: 0,
+        top: 0,
+    }
+}
+
+// The checkpoint at a state, with so many steps left.
+fn checkpoint_at(s: State, left: u64) -> Checkpoint
+    ensures { λ r. ⌜ r ≡ checkpointAt s left ⌝ }
+{
+    Checkpoint {
+        spot: Spot {
+            depth: s.depth,
+            left,
+            top: s.top,
+        },
+        position: s.position,
+    }
+}
+
+// No checkpoint: no line is longer than this position.
+fn no_checkpoint() -> Checkpoint
+    ensures { λ r. ⌜ r ≡ noCheckpoint ⌝ }
+{
+    Checkpoint {
+        spot: Spot {
+            depth: 1,
+            left: 0,
+            top: 0,
+        },
+        position: 65535,
+    }
+}
+
+// The run over an input by a table, both checked. Now and then it leaves a checkpoint.
+fn run(
+    table: &[u16],
+    input: &[u8],
+    stack: &mut [u16],
+    list: &mut [u16],
+    second: &mut [u16],
+    step_limit: u64,
+) -> Course
+    requires { ⌜ (Passed (now table) (now input) (length (now stack))) × (length (now input) ≤ 65535) × (length (now stack) ≤ length (now second)) ⌝ }
+    ensures { λ r. ⌜ (Ends (runs (now (table .entry)) (now (input .entry)) «step_limit» (start (now (stack .entry)) (now (list .entry)))) (r .end) (now (stack .exit)) (now (list .exit))) × (Resumes (now (table .entry)) (now (input .entry)) «step_limit» (now (second .exit)) (r .checkpoint)) ⌝ }
+{
+    let z = tables::shape_of(table);
+    let cells = tables::cells_of(table, z);
+    stack[0] = 0;
+    let mut s = at_start();
+    let mut checkpoint = no_checkpoint();
+    let mut left = step_limit;
+    loop {
+        s.left = portion(left, s.depth);
+        left -= s.left;
+        let n = advance(table, cells, input, stack, list, z, s);
+        match n {
+            Progress::Ended(end) => {
+                return Course { end, checkpoint };
+            }
+            Progress::Paused(t) => {
+                if left == 0 {
+                    let end = Ending::Final(Answer::StepLimit(count(t)));
+                    return Course { end, checkpoint };
+                }
+                copy(stack, second, t.depth);
+                checkpoint = checkpoint_at(t, left);
+                s = t;
+            }
+        }
+    }
+}
+
+// What an exploration tells, with the position and the counts of the run.
+fn told(e: Expected, position: usize, counts: Counts) -> Answer
+    ensures { λ r. ⌜ numbers r ≡ tells e position counts ⌝ }
+{
+    match e {
+        Expected::Known(word) => Answer::NoAction {
+            position,
+            expected: word,
+            size: sets::size(word),
+            counts,
+        },
+        Expected::Cut => Answer::ExpectedUnknown { position, counts },
+    }
+}
+
+// The exploration behind a line, from the checkpoint where that lies before the line's end, else from the beginning.
+fn explore_from(
+    table: &[u16],
+    line: &[u8],
+    second: &mut [u16],
+    step_limit: u64,
+    checkpoint: Checkpoint,
+) -> Expected
+    requires { ⌜ (Checked (now table)) × (inputOk (now table) (now line) ≡ true) × (0 < length (now second)) × (ResumesIn (now table) (now line) «step_limit» (now second) checkpoint) ⌝ }
+    ensures { λ r. ⌜ Explores (now (table .entry)) «step_limit» (length (now (second .entry))) (now (line .entry)) r ⌝ }
+{
+    if checkpoint.position < line.len() {
+        return exploration::explore(
+            table,
+            line,
+            second,
+            checkpoint.spot,
+            checkpoint.position,
+            step_limit,
+        );
+    }
+    let s = exploration::begin(second, step_limit);
+    exploration::explore(table, line, second, s, 0, step_limit)
+}
+
+// The answer for a wrong terminal at a position: the terminals that can follow the input before it.
+fn explored(
+    table: &[u16],
+    input: &[u8],
+    second: &mut [u16],
+    step_limit: u64,
+    position: usize,
+    counts: Counts,
+    checkpoint: Checkpoint,
+) -> Answer
+    requires { ⌜ (Checked (now table)) × (inputOk (now table) (now input) ≡ true) × (0 < length (now second)) × (position ≤ length (now input)) × (Resumes (now table) (now input) «step_limit» (now second) checkpoint) ⌝ }
+    ensures { λ r. ⌜ ((m : Machine) → At m position counts → numbers r ≡ numbersOf (wrongAt (now (table .entry)) (now (input .entry)) «step_limit» (length (now (second .entry))) m)) ⌝ }
+{
+    let e = explore_from(table, &input[..position], second, step_limit, checkpoint);
+    told(e, position, counts)
+}
+
+// The answer of a run that has ended.
+fn answered(table: &[u16], input: &[u8], second: &mut [u16], step_limit: u64, r: Course) -> Answer
+    requires { ⌜ (Checked (now table)) × (inputOk (now table) (now input) ≡ true) × (0 < length (now second)) × (Explorable (length (now input)) (r .end)) × (Resumes (now table) (now input) «step_limit» (now second) (r .checkpoint)) ⌝ }
+    ensures { λ a. ⌜ ((o : Outcome) → Says o (r .end) → numbers a ≡ numbersOf (reportOf (now (table .entry)) (now (input .entry)) «step_limit» (length (now (second .entry))) o)) ⌝ }
+{
+    let checkpoint = r.checkpoint;
+    let end = r.end;
+    match end {
+        Ending::Final(a) => a,
+        Ending::Wrong(position, counts) => {
+            explored(
+                table,
+                input,
+                second,
+                step_limit,
+                position,
+                counts,
+                checkpoint,
+            )
+        }
+    }
+}
+
+fn clear(second: &mut [u16])
+    ensures { λ _. ⌜ now (second .exit) ≡ replicate (length (now (second .entry))) 0 ⌝ }
+{
+    let mut i: usize = 0;
+    while i < second.len() {
+        second[i] = 0;
+        i += 1;
+    }
+}
+
+// The same, and the second area is cleared.
+fn finish(table: &[u16], input: &[u8], second: &mut [u16], step_limit: u64, r: Course) -> Answer
+    requires { ⌜ (Checked (now table)) × (inputOk (now table) (now input) ≡ true) × (0 < length (now second)) × (Explorable (length (now input)) (r .end)) × (Resumes (now table) (now input) «step_limit» (now second) (r .checkpoint)) ⌝ }
+    ensures { λ a. ⌜ ((o : Outcome) → Says o (r .end) → numbers a ≡ numbersOf (reportOf (now (table .entry)) (now (input .entry)) «step_limit» (length (now (second .entry))) o)) × (now (second .exit) ≡ replicate (length (now (second .entry))) 0) ⌝ }
+{
+    let a = answered(table, input, second, step_limit, r);
+    clear(second);
+    a
+}
+
+// The reading of an input by a table, where nothing is refused.
+fn read(
+    table: &[u16],
+    input: &[u8],
+    stack: &mut [u16],
+    list: &mut [u16],
+    second: &mut [u16],
+    step_limit: u64,
+) -> Answer
+    requires { ⌜ refusalOf (now table) (now input) (length (now stack)) (length (now second)) ≡ 0 ⌝ }
+    ensures { λ r. ⌜ ReadsAs (reading (now (table .entry)) (now (input .entry)) (now (stack .entry)) (now (list .entry)) (now (second .entry)) «step_limit») r (now (stack .exit)) (now (list .exit)) (now (second .exit)) ⌝ }
+{
+    let r = run(table, input, stack, list, second, step_limit);
+    finish(table, input, second, step_limit, r)
 }
 
 // Reads an input by a table: every input is answered, and a refusal changes nothing.
@@ -136,14 +379,15 @@ pub fn parse(
     input: &[u8],
     stack: &mut [u16],
     list: &mut [u16],
+    second: &mut [u16],
     step_limit: u64,
 ) -> Answer
-    ensures { λ r. ⌜ ReadsAs (reading (now (table .entry)) (now (input .entry)) (now (stack .entry)) (now (list .entry)) «step_limit») r (now (stack .exit)) (now (list .exit)) ⌝ }
+    ensures { λ r. ⌜ ReadsAs (reading (now (table .entry)) (now (input .entry)) (now (stack .entry)) (now (list .entry)) (now (second .entry)) «step_limit») r (now (stack .exit)) (now (list .exit)) (now (second .exit)) ⌝ }
 {
-    let v = table_checks::check(table, input, stack.len());
+    let v = table_checks::check(table, input, stack.len(), second.len());
     match v {
         Verdict::Refused(e) => Answer::Refused(e),
-        Verdict::Passed => run(table, input, stack, list, step_limit),
+        Verdict::Passed => read(table, input, stack, list, second, step_limit),
     }
 }
 

@@ -8,8 +8,9 @@ use Rattle.machine.specs.Report.{numbersOf, Reading}
 abbrev pub padded : List ℕ → List ℕ
 padded xs = covered 7 xs []
 
--- the seven numbers and both areas after the call are those of the definition
-pub record WritesOut (g : Reading) (out st li : List ℕ) : Type 0 where
+-- the seven numbers and the three areas after the call are those of the definition
+pub record WritesOut (g : Reading) (out st li se : List ℕ) : Type 0 where
   pub report : out ≡ padded (numbersOf (g .report))
   pub stack : st ≡ g .stack
   pub list : li ≡ g .list
+  pub second : se ≡ g .second

@@ -29,6 +29,7 @@ fn refused(e: Refusal) -> [u64; 7]
         Refusal::InputLong => 25,
         Refusal::TerminalWrong => 26,
         Refusal::NoStack => 27,
+        Refusal::SecondShort => 45,
     };
     [n, 0, 0, 0, 0, 0, 0]
 }
@@ -53,6 +54,15 @@ fn seven(a: Answer) -> [u64; 7]
             expected,
             size as u64,
         ],
+        Answer::ExpectedUnknown { position, counts } => [
+            46,
+            counts.steps,
+            counts.depth as u64,
+            counts.listed as u64,
+            position as u64,
+            0,
+            0,
+        ],
         Answer::StepLimit(c) => end(32, c),
         Answer::StackFull(c) => end(33, c),
         Answer::ListFull(c) => end(34, c),
@@ -66,12 +76,13 @@ pub extern "C" fn sidumza_parse(
     input: &[u8],
     stack: &mut [u16],
     list: &mut [u16],
+    second: &mut [u16],
     step_limit: u64,
     out: &mut [u64; 7],
 )
-    ensures { λ _. ⌜ WritesOut (reading (now (table .entry)) (now (input .entry)) (now (stack .entry)) (now (list .entry)) «step_limit») (now (out .exit)) (now (stack .exit)) (now (list .exit)) ⌝ }
+    ensures { λ _. ⌜ WritesOut (reading (now (table .entry)) (now (input .entry)) (now (stack .entry)) (now (list .entry)) (now (second .entry)) «step_limit») (now (out .exit)) (now (stack .exit)) (now (list .exit)) (now (second .exit)) ⌝ }
 {
-    let a = parser::parse(table, input, stack, list, step_limit);
+    let a = parser::parse(table, input, stack, list, second, step_limit);
     *out = seven(a);
 }
 

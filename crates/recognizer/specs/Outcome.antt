@@ -17,26 +17,27 @@ use Rattle.recognizer.specs.declared.Outcome as outcomes
 use Rattle.recognizer.specs.declared.Outcome.the-variants.{NoTable, Read}
 
 -- the maker made no table and says why; the reader's areas are as they were
-pub record WithoutTable (g : Generated) (a : generator.Answer) (st₀ li₀ st li : List ℕ) : Type 0 where
+pub record WithoutTable (g : Generated) (a : generator.Answer) (st₀ li₀ se₀ st li se : List ℕ) : Type 0 where
   pub no-table : g .answer ≢ made
   pub answer : numbers a ≡ numbersOf (g .answer)
   pub stack : st ≡ st₀
   pub list : li ≡ li₀
+  pub second : se ≡ se₀
 
 -- the maker made a table, the answer is that of the reading with the table as it was left, and says of the input what the grammar says
-pub record WithTable (g : Generated) (card input : List ℕ) (r : Reading) (a : parser.Answer) (st li : List ℕ) : Type 0 where
+pub record WithTable (g : Generated) (card input : List ℕ) (r : Reading) (a : parser.Answer) (st li se : List ℕ) : Type 0 where
   pub table : g .answer ≡ made
-  pub reads : ReadsAs r a st li
+  pub reads : ReadsAs r a st li se
   pub demand-3 : Demand3 (grammarOf card) input r
 
--- how the call ends, by its answer: g is what the maker gives for the card, the reader's areas were st₀ and li₀
-abbrev pub Ends : Generated → List ℕ → List ℕ → ℕ → List ℕ → List ℕ → outcomes.Outcome → List ℕ → List ℕ → Type 0
-Ends g card input limit st₀ li₀ (NoTable a) st li = WithoutTable g a st₀ li₀ st li
-Ends g card input limit st₀ li₀ (Read a) st li = WithTable g card input (reading (g .table) input st₀ li₀ limit) a st li
+-- how the call ends, by its answer: g is what the maker gives for the card, the reader's areas were st₀, li₀ and se₀
+abbrev pub Ends : Generated → List ℕ → List ℕ → ℕ → List ℕ → List ℕ → List ℕ → outcomes.Outcome → List ℕ → List ℕ → List ℕ → Type 0
+Ends g card input limit st₀ li₀ se₀ (NoTable a) st li se = WithoutTable g a st₀ li₀ se₀ st li se
+Ends g card input limit st₀ li₀ se₀ (Read a) st li se = WithTable g card input (reading (g .table) input st₀ li₀ se₀ limit) a st li se
 
--- the whole call, for every card, input (the paper's line), step limit (its allowance) and lent area: t, z, w, st, li are the areas after it
-pub record Recognizes (card input : List ℕ) (limit : ℕ) (t₀ z₀ w₀ st₀ li₀ : List ℕ) (r : outcomes.Outcome) (t z w st li : List ℕ) : Type 0 where
-  pub outcome : Ends (generated t₀ z₀ w₀ card) card input limit st₀ li₀ r st li
+-- the whole call, for every card, input (the paper's line), step limit (its allowance) and lent area: t, z, w, st, li, se are the areas after it
+pub record Recognizes (card input : List ℕ) (limit : ℕ) (t₀ z₀ w₀ st₀ li₀ se₀ : List ℕ) (r : outcomes.Outcome) (t z w st li se : List ℕ) : Type 0 where
+  pub outcome : Ends (generated t₀ z₀ w₀ card) card input limit st₀ li₀ se₀ r st li se
   pub table : t ≡ generated t₀ z₀ w₀ card .table
   pub words : z ≡ generated t₀ z₀ w₀ card .words
   pub halves : w ≡ generated t₀ z₀ w₀ card .halves

@@ -17,13 +17,14 @@ pub fn recognize(
     halves: &mut [u32],
     stack: &mut [u16],
     list: &mut [u16],
+    second: &mut [u16],
 ) -> Outcome
-    ensures { λ r. ⌜ Recognizes (now (card .entry)) (now (input .entry)) «step_limit» (now (table .entry)) (now (words .entry)) (now (halves .entry)) (now (stack .entry)) (now (list .entry)) r (now (table .exit)) (now (words .exit)) (now (halves .exit)) (now (stack .exit)) (now (list .exit)) ⌝ }
+    ensures { λ r. ⌜ Recognizes (now (card .entry)) (now (input .entry)) «step_limit» (now (table .entry)) (now (words .entry)) (now (halves .entry)) (now (stack .entry)) (now (list .entry)) (now (second .entry)) r (now (table .exit)) (now (words .exit)) (now (halves .exit)) (now (stack .exit)) (now (list .exit)) (now (second .exit)) ⌝ }
 {
     let a = generator::generate(card, table, words, halves);
     match a {
         generator::Answer::Table => {
-            let r = parser::parse(table, input, stack, list, step_limit);
+            let r = parser::parse(table, input, stack, list, second, step_limit);
             Outcome::Read(r)
         }
         _ => Outcome::NoTable(a),

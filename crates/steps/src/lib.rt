@@ -3,10 +3,9 @@ use tables::Shape;
 ghost use mathlib.Core.Path.{_≡_};
 ghost use mathlib.Core.List.{List};
 ghost use Prim.Native.Nat.{ℕ, _+_, _*_, _-_, _<_, _≤_, _^_};
-ghost use lib.ListN.{getD, length, drop};
-ghost use Rattle.tables.specs.Layout.{terminals, productions, leftOf, lengthOf, cellOf};
-ghost use Rattle.tables.specs.Shape.{Shaped};
-ghost use Rattle.machine.specs.ComputedRun.{popped, shifted, reducedTo, reduced, movedBy, expectedWord, bitIf};
+ghost use lib.ListN.{getD, length};
+ghost use Rattle.tables.specs.Layout.{productions, leftOf, lengthOf, cellOf};
+ghost use Rattle.machine.specs.ComputedRun.{popped, shifted, reducedTo, reduced, movedBy};
 ghost use Rattle.tables.specs.declared.Shape.{Shape};
 ghost use Rattle.steps.specs.State.{machineOf, Held, Stepped, Reducible, Steppable};
 
@@ -212,27 +211,4 @@ pub fn step(
     } else {
         reduce_by(table, cells, stack, list, z, s, a - 1024)
     }
-}
-
-fn with_bit(word: u64, m: u32, cell: u16) -> u64
-    requires { ⌜ (m < 64) × (word < 2 ^ m) ⌝ }
-    ensures { λ r. ⌜ r ≡ bitIf cell * 2 ^ m + word ⌝ }
-{
-    if cell == 0 { word } else { sets::with(word, m) }
-}
-
-// The word with the bits of the terminals whose cell in row q is not 0.
-pub fn expected(cells: &[u16], z: Shape, q: usize) -> u64
-    requires { ⌜ (z .terminals ≤ 64) × (q * z .width + z .terminals ≤ length (now cells)) ⌝ }
-    ensures { λ r. ⌜ ((t : List ℕ) → Shaped t z → now (cells .entry) ≡ drop (z .cells) t → r ≡ expectedWord t q (terminals t)) ⌝ }
-{
-    let n = z.terminals;
-    let row = q * z.width;
-    let mut word: u64 = 0;
-    let mut m: usize = 0;
-    while m < n {
-        word = with_bit(word, m as u32, tables::cell_at(cells, row, m));
-        m += 1;
-    }
-    word
 }

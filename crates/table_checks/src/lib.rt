@@ -1,4 +1,4 @@
-// What the reader refuses: the table, the input and the stack area.
+// What the reader refuses: the table, the input and the stack areas.
 use tables::Shape;
 ghost use mathlib.Core.Path.{_≡_};
 ghost use mathlib.Core.Bool.{_&&_, _||_};
@@ -23,6 +23,7 @@ pub enum Refusal {
     InputLong,
     TerminalWrong,
     NoStack,
+    SecondShort,
 }
 
 pub enum Verdict {
@@ -331,36 +332,38 @@ fn check_input(t: &[u16], l: &[u8]) -> Verdict
     Verdict::Passed
 }
 
-// The refusal of a stack area of n places.
-fn check_area(n: usize) -> Verdict
-    ensures { λ r. ⌜ verdictNumber r ≡ areaRefusal n ⌝ }
+// The first refusal that applies to a stack area of n places and a second one of k.
+fn check_areas(n: usize, k: usize) -> Verdict
+    ensures { λ r. ⌜ verdictNumber r ≡ areaRefusal n k ⌝ }
 {
     if n == 0 {
-        Verdict::Refused(Refusal::NoStack)
-    } else {
-        Verdict::Passed
+        return Verdict::Refused(Refusal::NoStack);
     }
+    if k < n {
+        return Verdict::Refused(Refusal::SecondShort);
+    }
+    Verdict::Passed
 }
 
-// The first refusal that applies to an input for a table and to a stack area of n places.
-fn check_lent(t: &[u16], l: &[u8], n: usize) -> Verdict
+// The first refusal that applies to an input for a table and to stack areas of n and k places.
+fn check_lent(t: &[u16], l: &[u8], n: usize, k: usize) -> Verdict
     requires { ⌜ tableRefusal (now t) ≡ 0 ⌝ }
-    ensures { λ r. ⌜ verdictNumber r ≡ firstRefusal (inputRefusal (now (t .entry)) (now (l .entry))) (areaRefusal n) ⌝ }
+    ensures { λ r. ⌜ verdictNumber r ≡ firstRefusal (inputRefusal (now (t .entry)) (now (l .entry))) (areaRefusal n k) ⌝ }
 {
     let v = check_input(t, l);
     match v {
         Verdict::Refused(e) => Verdict::Refused(e),
-        Verdict::Passed => check_area(n),
+        Verdict::Passed => check_areas(n, k),
     }
 }
 
-// The first refusal that applies to a table, an input and a stack area of n places.
-pub fn check(t: &[u16], l: &[u8], n: usize) -> Verdict
-    ensures { λ r. ⌜ verdictNumber r ≡ refusalOf (now (t .entry)) (now (l .entry)) n ⌝ }
+// The first refusal that applies to a table, an input and stack areas of n and k places.
+pub fn check(t: &[u16], l: &[u8], n: usize, k: usize) -> Verdict
+    ensures { λ r. ⌜ verdictNumber r ≡ refusalOf (now (t .entry)) (now (l .entry)) n k ⌝ }
 {
     let v = check_table(t);
     match v {
         Verdict::Refused(e) => Verdict::Refused(e),
-        Verdict::Passed => check_lent(t, l, n),
+        Verdict::Passed => check_lent(t, l, n, k),
     }
 }

@@ -62,6 +62,8 @@ extern "C" {
         stack_len: usize,
         list: *mut u16,
         list_len: usize,
+        second: *mut u16,
+        second_len: usize,
         step_limit: u64,
         out: *mut u64,
     );
@@ -78,6 +80,8 @@ unsafe extern "C" fn sidumza_parse(
     stack_len: usize,
     list: *mut u16,
     list_len: usize,
+    second: *mut u16,
+    second_len: usize,
     step_limit: u64,
     out: *mut u64,
 ) {
@@ -87,6 +91,7 @@ unsafe extern "C" fn sidumza_parse(
         from_raw_parts(input, input_len),
         from_raw_parts_mut(stack, stack_len),
         from_raw_parts_mut(list, list_len),
+        from_raw_parts_mut(second, second_len),
         step_limit,
     );
     from_raw_parts_mut(out, 7).copy_from_slice(&outcome.out());
@@ -95,8 +100,8 @@ unsafe extern "C" fn sidumza_parse(
 /// Makes a table: card, table area, both work areas.
 pub type Generator = dyn Fn(&[u16], &mut [u16], &mut [u64], &mut [u32]) -> [u64; 5];
 
-/// Reads an input: table, input, stack area, list area, step limit.
-pub type Parser = dyn Fn(&[u16], &[u8], &mut [u16], &mut [u16], u64) -> [u64; 7];
+/// Reads an input: table, input, stack area, list area, second area, step limit.
+pub type Parser = dyn Fn(&[u16], &[u8], &mut [u16], &mut [u16], &mut [u16], u64) -> [u64; 7];
 
 pub fn generate(card: &[u16], table: &mut [u16], work: &mut [u64], work2: &mut [u32]) -> [u64; 5] {
     // What is not written must not look like an answer.
@@ -122,6 +127,7 @@ pub fn parse(
     input: &[u8],
     stack: &mut [u16],
     list: &mut [u16],
+    second: &mut [u16],
     step_limit: u64,
 ) -> [u64; 7] {
     let mut out = [99; 7];
@@ -135,6 +141,8 @@ pub fn parse(
             stack.len(),
             list.as_mut_ptr(),
             list.len(),
+            second.as_mut_ptr(),
+            second.len(),
             step_limit,
             out.as_mut_ptr(),
         );

@@ -1,21 +1,18 @@
-//! One card: the generator's answer and all three areas against the reference;
-//! inputs read with the table: the parser's answer and both areas against the
-//! reference, and the answer against the membership tests.
+//! One card: the generator's answer and all three areas against the reference, and
+//! inputs read with the table.
 
 use reference::answer::{reference, short_area, Answer, TABLE_LENGTH, WORK2_LENGTH, WORK_LENGTH};
 use reference::card::{bad_symbol, parse};
-use reference::derivation::{is_rightmost, sentence, Shortest};
-use reference::earley::recognise;
+use reference::derivation::Shortest;
 use reference::grammar::Grammar;
-use reference::parser::{parse as parse_plainly, Outcome};
 use reference::random::Random;
-use reference::spans::{Derivations, Spans};
 
 use crate::abi::{Generator, Parser};
 use crate::guarded::Guarded;
+use crate::readings::{self, input, Readings};
 
 /// Places behind the areas lent, which nobody may touch.
-const FENCE: usize = 24;
+pub const FENCE: usize = 24;
 /// Areas are at most so much longer than they must be.
 const LONGER: usize = 40;
 /// LR(1) sets after which the definition is left for the second way.
@@ -142,36 +139,6 @@ impl Areas {
     }
 }
 
-/// An area of the parser with its old contents and a fence behind it, twice: for
-/// the parser under test and for the reference.
-struct Twin {
-    pool: Vec<u16>,
-    ours: Vec<u16>,
-    theirs: Vec<u16>,
-    length: usize,
-}
-
-impl Twin {
-    fn new(random: &mut Random, longest: usize) -> Twin {
-        let places = longest + FENCE;
-        let pool = (0..places + 997).map(|_| random.draw() as u16).collect();
-        Twin { pool, ours: vec![0; places], theirs: vec![0; places], length: 0 }
-    }
-
-    fn longest(&self) -> usize {
-        self.ours.len() - FENCE
-    }
-
-    /// Other old contents, the same for both, and another length.
-    fn lend(&mut self, random: &mut Random, length: usize) {
-        let from = random.below(self.pool.len() - self.ours.len());
-        let old = &self.pool[from..from + self.ours.len()];
-        self.ours.copy_from_slice(old);
-        self.theirs.copy_from_slice(old);
-        self.length = length;
-    }
-}
-
 /// What was seen.
 #[derive(Default)]
 pub struct Counts {
@@ -187,11 +154,6 @@ pub struct Counts {
     /// Tables with T 64, and with over 100 states.
     pub wide: u64,
     pub large: u64,
-    pub sentences: u64,
-    pub wrong_at_end: u64,
-    pub wrong_before: u64,
-    pub ran_out: u64,
-    pub refused: u64,
 }
 
 impl Counts {
@@ -202,14 +164,9 @@ impl Counts {
     }
 }
 
-/// Steps that no input of the tests needs: a small limit, and wide ones whose lower half
-/// or whose other 63 bits are few steps or none.
-const ENOUGH: [u64; 6] = [50_000, 1 << 32, (1 << 32) + 3, 5 << 40, 1 << 63, u64::MAX];
-
 pub struct Checker {
     areas: Areas,
-    stack: Twin,
-    list: Twin,
+    readings: Readings,
     pub counts: Counts,
     /// Compare the two ways of the reference for one card in so many.
     pub both: u64,
@@ -223,8 +180,7 @@ impl Checker {
     pub fn new(random: &mut Random) -> Checker {
         Checker {
             areas: Areas::new(random),
-            stack: Twin::new(random, 2_000),
-            list: Twin::new(random, 4_000),
+            readings: Readings::new(random),
             counts: Counts::default(),
             both: 1,
             compare: true,
@@ -232,21 +188,27 @@ impl Checker {
         }
     }
 
-    /// Fails with a description of the first difference.
-    pub fn card(
-        &mut self,
-        random: &mut Random,
-        numbers: &[u16],
-        generator: &Generator,
-        parser: &Parser,
-    ) -> Result<(), String> {
-        let mut short = [false; 3];
-        if random.chance(3) {
-            short[random.below(3)] = true;
-            short[random.below(3)] = true;
-        }
-        let out = self.areas.generate(random, short, numbers, generator);
+    /// For tables that may be wrong: they are not compared, and no reading with them may
+    /// go on for long.
+    pub fn with_wrong_tables(mut self) -> Checker {
+        self.compare = false;
+        self.readings.limited = true;
+        self
+    }
 
+    /// For a parser that is compared with what the grammar derives, and not with the
+    /// reference.
+    pub fn without_plain_parser(mut self) -> Checker {
+        self.readings.plainly = false;
+        self
+    }
+
+    pub fn seen(&self) -> &readings::Counts {
+        &self.readings.counts
+    }
+
+    /// What the generator must answer with the areas lent.
+    fn expected(&mut self, numbers: &[u16]) -> Answer {
         self.counts.cards += 1;
         let both = self.counts.cards.is_multiple_of(self.both);
         let Areas { table, work, work2, .. } = &self.areas;
@@ -266,6 +228,24 @@ impl Checker {
             Answer::Refused(9, _) => self.counts.right_sides[1] += 1,
             _ => {}
         }
+        expected
+    }
+
+    /// Fails with a description of the first difference.
+    pub fn card(
+        &mut self,
+        random: &mut Random,
+        numbers: &[u16],
+        generator: &Generator,
+        parser: &Parser,
+    ) -> Result<(), String> {
+        let mut short = [false; 3];
+        if random.chance(3) {
+            short[random.below(3)] = true;
+            short[random.below(3)] = true;
+        }
+        let out = self.areas.generate(random, short, numbers, generator);
+        let expected = self.expected(numbers);
         if self.compare {
             self.areas.compare(&expected, out)?;
         }
@@ -274,155 +254,12 @@ impl Checker {
             self.counts.large += u64::from(table[0] > 100);
             let grammar = Grammar::new(parse(numbers).expect("a card with a table"));
             let shortest = Shortest::new(&grammar);
+            let table = &self.areas.table.now[..self.areas.table.length];
             for number in 0..self.inputs {
                 let input = input(random, &grammar, &shortest, number);
-                let limit = self.lend(random);
-                self.input(&grammar, &input, limit, parser).map_err(|what| {
-                    let (stack, list) = (self.stack.length, self.list.length);
-                    format!("input {input:?}, areas {stack} and {list}, limit {limit}: {what}")
-                })?;
+                self.readings.read(random, &grammar, table, &input, parser)?;
             }
         }
         Ok(())
     }
-
-    /// Lends areas to the parser and gives its step limit; one of the three is
-    /// short for one input in four.
-    fn lend(&mut self, random: &mut Random) -> u64 {
-        let (mut stack, mut list) = (self.stack.longest(), self.list.longest());
-        let mut limit = *random.pick(&ENOUGH);
-        if random.chance(25) {
-            match random.below(3) {
-                0 => stack = random.below(12),
-                1 => list = random.below(16),
-                _ => limit = random.below(40) as u64,
-            }
-        }
-        self.stack.lend(random, stack);
-        self.list.lend(random, list);
-        limit
-    }
-
-    /// Reads an input with the table made, and compares with the reference and
-    /// with what is known of the grammar without LR.
-    fn input(
-        &mut self,
-        grammar: &Grammar,
-        input: &[u8],
-        limit: u64,
-        parser: &Parser,
-    ) -> Result<(), String> {
-        let table = &self.areas.table.now[..self.areas.table.length];
-        let (stack, list) = (self.stack.length, self.list.length);
-        let (ours, theirs) = (&mut self.stack.ours[..stack], &mut self.stack.theirs[..stack]);
-        let (our_list, their_list) = (&mut self.list.ours[..list], &mut self.list.theirs[..list]);
-        let out = parser(table, input, ours, our_list, limit);
-        let expected = parse_plainly(table, input, theirs, their_list, limit).out();
-        if out != expected {
-            return Err(format!("answer {out:?}, expected {expected:?}"));
-        }
-        if self.stack.ours != self.stack.theirs {
-            return Err("the stack area differs".into());
-        }
-        if self.list.ours != self.list.theirs {
-            return Err("the list area differs".into());
-        }
-        let outcome = Outcome::from_out(out);
-        let terminals = grammar.card.terminals;
-        let refusal = if input.iter().any(|&m| m == 0 || m as usize >= terminals) {
-            26
-        } else if stack == 0 {
-            27
-        } else {
-            0
-        };
-        if refusal != 0 {
-            if outcome.number != refusal {
-                return Err(format!("ended with {}, not {refusal}", outcome.number));
-            }
-            self.counts.refused += 1;
-            return Ok(());
-        }
-        let known = recognise(grammar, input);
-        let listed = outcome.listed as usize;
-        match outcome.number {
-            0 => {
-                if !known.sentence {
-                    return Err("accepted, but no sentence".into());
-                }
-                let productions = self.list.ours[..listed].iter().rev().map(|&p| p as usize);
-                if !is_rightmost(grammar, productions, input) {
-                    return Err("the list is no rightmost derivation".into());
-                }
-                if outcome.steps != input.len() as u64 + outcome.listed + 1 {
-                    return Err(format!("{} steps", outcome.steps));
-                }
-                if outcome.depth != 2 {
-                    return Err(format!("{} places in use", outcome.depth));
-                }
-                if Spans::new(grammar, input).derivations() != Derivations::One {
-                    return Err("accepted, but not with one derivation".into());
-                }
-                self.counts.sentences += 1;
-            }
-            31 => {
-                if known.sentence {
-                    return Err("a sentence, but not accepted".into());
-                }
-                if outcome.position != known.begins as u64 {
-                    return Err(format!("position {}, not {}", outcome.position, known.begins));
-                }
-                if outcome.steps != outcome.position + outcome.listed {
-                    return Err(format!("{} steps", outcome.steps));
-                }
-                let met = input.get(known.begins).map_or(0, |&m| m);
-                let counted = u64::from(outcome.expected.count_ones());
-                let possible = outcome.expected >> met & 1 == 0 && outcome.expected != 0;
-                if !possible || outcome.expected_count != counted {
-                    return Err(format!("expected set {:x}", outcome.expected));
-                }
-                if known.begins == input.len() {
-                    self.counts.wrong_at_end += 1;
-                } else {
-                    self.counts.wrong_before += 1;
-                }
-            }
-            32 if outcome.steps == limit => self.counts.ran_out += 1,
-            33 if outcome.depth == stack as u64 => self.counts.ran_out += 1,
-            34 if listed == list => self.counts.ran_out += 1,
-            number => return Err(format!("ended with {number}")),
-        }
-        Ok(())
-    }
-}
-
-/// A sentence, one with a change, the beginning of one, or any terminals; one in
-/// a hundred has a number that is no terminal.
-fn input(random: &mut Random, grammar: &Grammar, shortest: &Shortest, number: usize) -> Vec<u8> {
-    let terminals = grammar.card.terminals;
-    let drawn = sentence(grammar, shortest, random, 40);
-    let mut input = match drawn {
-        Some(input) if number > 0 => input,
-        _ if terminals == 1 => vec![],
-        _ => (0..random.below(6)).map(|_| random.between(1, terminals - 1) as u8).collect(),
-    };
-    match number % 3 {
-        0 if terminals > 1 => {
-            let at = random.below(input.len() + 1);
-            let other = random.between(1, terminals - 1) as u8;
-            match random.below(3) {
-                0 => input.insert(at, other),
-                1 if at < input.len() => input[at] = other,
-                _ if at < input.len() => drop(input.remove(at)),
-                _ => {}
-            }
-        }
-        1 if random.chance(60) => input.truncate(random.below(input.len() + 1)),
-        _ => {}
-    }
-    if !input.is_empty() && random.chance(1) {
-        let at = random.below(input.len());
-        input[at] = *random.pick(&[0, terminals as u8, 255]);
-    }
-    input
 }

@@ -20,7 +20,10 @@ mod entered;
 mod guarded;
 mod lookaheads;
 mod measure;
+mod offers;
+mod parsers;
 mod pass;
+mod readings;
 mod relations;
 mod sums;
 mod walks;
@@ -45,7 +48,7 @@ fn show(numbers: &[u16]) -> String {
     words.join(" ")
 }
 
-fn report(counts: &Counts) {
+fn report(counts: &Counts, seen: &readings::Counts) {
     for (answer, count) in counts.answers.iter().enumerate() {
         let name = if answer == 0 { "table".into() } else { format!("refused {answer}") };
         println!("{name:>12} {count:>8}");
@@ -56,7 +59,12 @@ fn report(counts: &Counts) {
     println!("by the definition {}, by both ways {}", counts.by_definition, counts.both_ways);
     println!(
         "inputs: accepted {}, wrong at the end {}, wrong before {}, ran out {}, refused {}",
-        counts.sentences, counts.wrong_at_end, counts.wrong_before, counts.ran_out, counts.refused
+        seen.sentences, seen.wrong_at_end, seen.wrong_before, seen.ran_out, seen.refused
+    );
+    println!(
+        "expected sets: other than the top row {}, by spans too {}, unknown {}, in a longer \
+         second area {}; second area short {}",
+        seen.moved, seen.by_spans, seen.unknown, seen.saved, seen.second_short
     );
 }
 
@@ -72,7 +80,7 @@ fn compare(seed: u64, cards: u64) -> bool {
             return false;
         }
     }
-    report(&checker.counts);
+    report(&checker.counts, checker.seen());
     let unseen: Vec<usize> = (0..14).filter(|&a| checker.counts.answers[a] == 0).collect();
     if !unseen.is_empty() {
         println!("FAILED: answers not seen: {unseen:?}");
@@ -81,21 +89,40 @@ fn compare(seed: u64, cards: u64) -> bool {
     if few {
         println!("FAILED: only 8, only 9 or both for one card in 400, or fewer");
     }
-    unseen.is_empty() && !few
+    let few_readings = checker.seen().few();
+    if !few_readings.is_empty() {
+        println!("FAILED: under 100 times: {few_readings:?}");
+    }
+    unseen.is_empty() && !few && few_readings.is_empty()
+}
+
+/// What a wrong generator or parser is compared with.
+#[derive(Clone, Copy)]
+enum Against {
+    /// The reference, and what the grammar derives.
+    All,
+    /// No right table: the parser with it, and what the grammar derives.
+    WrongTables,
+    /// What the grammar derives, and not the reference's parser.
+    Grammar,
 }
 
 /// The number of the first card at which a wrong generator or parser is found.
 fn found(
     seed: u64,
     cards: u64,
-    compare: bool,
+    against: Against,
     generator: &abi::Generator,
     parser: &abi::Parser,
 ) -> Option<(u64, String)> {
     let mut random = Random::new(seed);
     let mut checker = Checker::new(&mut random);
     checker.both = u64::MAX;
-    checker.compare = compare;
+    checker = match against {
+        Against::All => checker,
+        Against::WrongTables => checker.with_wrong_tables(),
+        Against::Grammar => checker.without_plain_parser(),
+    };
     for card in 1..=cards {
         let numbers = cards::card(&mut random);
         if let Err(what) = checker.card(&mut random, &numbers, generator, parser) {
@@ -105,8 +132,15 @@ fn found(
     None
 }
 
-fn parser(t: &[u16], i: &[u8], s: &mut [u16], l: &mut [u16], limit: u64) -> [u64; 7] {
-    reference::parser::parse(t, i, s, l, limit).out()
+fn parser(
+    t: &[u16],
+    i: &[u8],
+    s: &mut [u16],
+    l: &mut [u16],
+    v: &mut [u16],
+    limit: u64,
+) -> [u64; 7] {
+    reference::parser::parse(t, i, s, l, v, limit).out()
 }
 
 fn generator(c: &[u16], t: &mut [u16], w: &mut [u64], v: &mut [u32]) -> [u64; 5] {
@@ -125,7 +159,7 @@ fn reads_behind(seed: u64, cards: u64) -> bool {
         }
         out
     };
-    found(seed, cards, true, &reads, &parser).is_none()
+    found(seed, cards, Against::All, &reads, &parser).is_none()
 }
 
 /// The signal for memory that may not be touched.
@@ -136,6 +170,28 @@ fn reads_behind_dies() -> bool {
     let program = std::env::current_exe().expect("this program");
     let status = Command::new(program).arg("reads-behind").status().expect("a process");
     status.signal() == Some(SIGSEGV)
+}
+
+/// What the wrong ones are made from is right: the first card where it is not.
+fn wrong_base(seed: u64, cards: u64) -> Option<String> {
+    let base = wrong::by_relations("the short way without a fault", relations::Fault::None);
+    let bases: [(_, &abi::Generator, &abi::Parser); 2] = [
+        (base.name, &base.generator, &parser),
+        ("fresh readings without a fault", &generator, &offers::base()),
+    ];
+    for (name, generator, parser) in bases {
+        if let Some((card, what)) = found(seed, cards, Against::All, generator, parser) {
+            return Some(format!("{name} at card {card}: {what}"));
+        }
+    }
+    if let Some(card) = pass::wrong_card(seed, cards) {
+        return Some(format!("one pass without a fault: {card:?}"));
+    }
+    // Cards of a kind that are too few are told, and only they.
+    let few =
+        |right_sides| Counts { cards: 400, right_sides, ..Counts::default() }.few_right_sides();
+    let told = few([2, 2, 2]) || !few([1, 2, 2]) || !few([2, 1, 2]) || !few([2, 2, 1]);
+    told.then_some("the count of right sides refused".into())
 }
 
 fn self_check(seed: u64, cards: u64) -> bool {
@@ -152,31 +208,21 @@ fn self_check(seed: u64, cards: u64) -> bool {
             }
         }
     };
-    // The bases of some wrong generators are right.
-    let base = wrong::by_relations("the short way without a fault", relations::Fault::None);
-    if let Some((card, what)) = found(seed, cards / 10, true, &base.generator, &parser) {
-        println!("FAILED: {} at card {card}: {what}", base.name);
-        return false;
-    }
-    if let Some(card) = pass::wrong_card(seed, cards / 10) {
-        println!("FAILED: one pass without a fault: {card:?}");
-        return false;
-    }
-    // Cards of a kind that are too few are told, and only they.
-    let few =
-        |right_sides| Counts { cards: 400, right_sides, ..Counts::default() }.few_right_sides();
-    if few([2, 2, 2]) || !few([1, 2, 2]) || !few([2, 1, 2]) || !few([2, 2, 1]) {
-        println!("FAILED: the count of right sides refused");
+    if let Some(what) = wrong_base(seed, cards / 10) {
+        println!("FAILED: {what}");
         return false;
     }
     for wrong in wrong::generators() {
-        tell(wrong.name, found(seed, cards, true, &wrong.generator, &parser));
+        tell(wrong.name, found(seed, cards, Against::All, &wrong.generator, &parser));
     }
     for wrong in wrong::tables() {
-        tell(wrong.name, found(seed, cards, false, &wrong.generator, &parser));
+        tell(wrong.name, found(seed, cards, Against::WrongTables, &wrong.generator, &parser));
     }
-    for (name, wrong) in wrong::parsers() {
-        tell(name, found(seed, cards, true, &generator, &wrong));
+    for (name, wrong) in parsers::parsers().into_iter().chain(offers::limits()) {
+        tell(name, found(seed, cards, Against::All, &generator, &wrong));
+    }
+    for (name, wrong) in offers::sets() {
+        tell(name, found(seed, cards, Against::Grammar, &generator, &wrong));
     }
     let died = reads_behind_dies().then(|| (0, "ended by a signal".to_string()));
     tell("a symbol behind L looked at", died);

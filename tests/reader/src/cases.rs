@@ -1,7 +1,7 @@
 // Random cases: tables of random grammars, random tables that pass the check, damaged ones, ones without entering
 // symbols; inputs, areas with old contents, and step limits.
 use crate::lalr::{self, Grammar};
-use crate::reference;
+use crate::reference::{self, Lent};
 
 pub struct Random(u64);
 
@@ -43,6 +43,7 @@ pub struct Case {
     pub input: Vec<u8>,
     pub stack: Vec<u16>,
     pub list: Vec<u16>,
+    pub second: Vec<u16>,
     pub limit: u64,
     // The table was made without entering symbols and has not been damaged.
     pub without_entered: bool,
@@ -90,7 +91,7 @@ impl Language {
             return;
         }
         let mut p = self.least[x];
-        if out.len() < long && depth < 100 {
+        if out.len() < long && depth < 100 + long / 4 {
             // Three tries for another production than the least.
             for _ in 0..3 {
                 let from = r.below(g.left.len());
@@ -148,6 +149,11 @@ fn card_a() -> Grammar {
 fn expressions() -> Grammar {
     let right = [vec![6, 1, 7], vec![7], vec![7, 2, 8], vec![8], vec![3, 6, 4], vec![5]];
     Grammar { terminals: 6, nonterminals: 3, left: vec![6, 6, 7, 7, 8, 8], right: right.to_vec() }
+}
+
+// The highest terminals: S -> 63 S 62 | 63 | 1.
+fn high_terminals() -> Grammar {
+    Grammar { terminals: 64, nonterminals: 1, left: vec![64; 3], right: vec![vec![63, 64, 62], vec![63], vec![1]] }
 }
 
 // Entering symbols of q states, of w symbols: each symbol but 0 in turn, so that few columns name no state, or by chance.
@@ -296,13 +302,44 @@ fn fill(r: &mut Random, area: &mut Vec<u16>, n: usize) {
     area.truncate(n);
 }
 
+// How long the areas of a case are.
+struct Lengths {
+    stack: usize,
+    list: usize,
+    second: usize,
+}
+
+impl Lengths {
+    // Short ones, or ones that are mostly enough.
+    fn new(r: &mut Random) -> Lengths {
+        let lengths = [0, 1, 1, 2, 3, 4, 6, 10, 30, 100];
+        let stack = if r.one_in(3) { r.of(&lengths) } else { 300 };
+        let list = if r.one_in(3) { r.of(&lengths) } else { 300 };
+        Lengths { stack, list, second: second_length(r, stack) }
+    }
+}
+
+// The second area: as long as the stack, one place longer, more places longer, or too short.
+fn second_length(r: &mut Random, stack: usize) -> usize {
+    if r.one_in(1000) {
+        return 65536 + r.below(40);
+    }
+    match r.below(40) {
+        0 => stack.saturating_sub(1),
+        1 => r.below(stack + 1),
+        2..=19 => stack,
+        20..=29 => stack + 1,
+        _ => stack + r.below(40),
+    }
+}
+
 pub struct Cases {
     random: Random,
     pub case: Case,
     languages: Vec<Language>,
     foreign: Vec<u16>,
     count: u64,
-    scratch: (Vec<u16>, Vec<u16>),
+    scratch: [Vec<u16>; 3],
 }
 
 impl Cases {
@@ -315,55 +352,90 @@ impl Cases {
                 Language::new(random_grammar(&mut random)).filter(|l| random.one_in(50) || rich(l, &mut random)),
             );
         }
+        languages.extend(Language::new(high_terminals()));
         while languages.len() < 206 {
             languages.extend(Language::new(wide_grammar(&mut random)));
         }
-        let case = Case::default();
-        Cases { random, case, languages, foreign: Vec::new(), count: 0, scratch: (vec![0; 4000], vec![0; 4000]) }
+        let scratch = [(); 3].map(|_| vec![0; 4000]);
+        Cases { random, case: Case::default(), languages, foreign: Vec::new(), count: 0, scratch }
     }
 
     // Makes the next case.
     pub fn step(&mut self) {
-        let r = &mut self.random;
-        let c = &mut self.case;
         self.count += 1;
-        c.without_entered = false;
+        self.case.without_entered = false;
         if self.count % 2500 == 1 {
-            huge(r, c, &self.languages, &mut self.foreign);
+            huge(&mut self.random, &mut self.case, &self.languages, &mut self.foreign);
             return;
         }
-        c.input.clear();
-        c.table.clear();
-        if r.one_in(2) {
-            let most = if r.one_in(100) { self.languages.len() } else { 200 };
-            let l = &self.languages[r.below(most)];
-            c.table.extend(&l.table);
-            let t = l.grammar.terminals;
-            if t > 1 && r.one_in(5) {
-                let n = r.below(20);
-                c.input.extend((0..n).map(|_| r.between(1, t - 1) as u8));
-            } else {
-                let long = r.of(&[5, 20, 100]);
-                c.input = l.sentence(long, r);
-                let n = c.input.len();
-                match r.below(4) {
-                    0 => c.input.truncate(r.below(n + 1)),
-                    1 if n > 0 && t > 1 => c.input[r.below(n)] = r.between(1, t - 1) as u8,
-                    _ => {}
-                }
-            }
+        self.case.input.clear();
+        self.case.table.clear();
+        if self.random.one_in(2) {
+            self.language();
         } else {
-            if self.count % 8 == 2 || self.foreign.is_empty() {
-                foreign(r, &mut self.foreign);
-            }
-            c.table.extend(&self.foreign);
-            let t = c.table[1] as usize;
-            if t > 1 {
-                let most = if r.one_in(50) { 2000 } else { 30 };
-                let n = r.below(most);
-                c.input.extend((0..n).map(|_| r.between(1, t - 1) as u8));
-            }
+            self.foreign();
         }
+        let entered_otherwise = self.damaged();
+        let r = &mut self.random;
+        let mut lengths = Lengths::new(r);
+        self.case.limit = step_limit(r);
+        if r.one_in(6) {
+            lengths = self.just_enough();
+        }
+        // 44 beside 26 and 27.
+        let (r, c) = (&mut self.random, &mut self.case);
+        if entered_otherwise && r.one_in(4) {
+            c.input.push(0);
+        }
+        if entered_otherwise && r.one_in(4) {
+            lengths.stack = 0;
+        }
+        fill(r, &mut c.stack, lengths.stack);
+        fill(r, &mut c.list, lengths.list);
+        fill(r, &mut c.second, lengths.second);
+    }
+
+    // A table of a grammar, and terminals by chance, or a sentence of it, perhaps cut or changed.
+    fn language(&mut self) {
+        let (r, c) = (&mut self.random, &mut self.case);
+        let first = if r.one_in(100) { 200 } else { 0 };
+        let l = &self.languages[first + r.below(if first == 0 { 200 } else { self.languages.len() - 200 })];
+        c.table.extend(&l.table);
+        let t = l.grammar.terminals;
+        if t > 1 && r.one_in(5) {
+            let n = r.below(20);
+            c.input.extend((0..n).map(|_| r.between(1, t - 1) as u8));
+            return;
+        }
+        // now and then long enough for a copy of the stack on the way
+        let long = if r.one_in(100) { 2000 } else { r.of(&[5, 20, 100]) };
+        c.input = l.sentence(long, r);
+        let n = c.input.len();
+        match r.below(4) {
+            0 => c.input.truncate(r.below(n + 1)),
+            1 if n > 0 && t > 1 => c.input[r.below(n)] = r.between(1, t - 1) as u8,
+            _ => {}
+        }
+    }
+
+    // A random table, the same for some cases, and terminals by chance.
+    fn foreign(&mut self) {
+        let (r, c) = (&mut self.random, &mut self.case);
+        if self.count % 8 == 2 || self.foreign.is_empty() {
+            foreign(r, &mut self.foreign);
+        }
+        c.table.extend(&self.foreign);
+        let t = c.table[1] as usize;
+        if t > 1 {
+            let most = if r.one_in(50) { 2000 } else { 30 };
+            let n = r.below(most);
+            c.input.extend((0..n).map(|_| r.between(1, t - 1) as u8));
+        }
+    }
+
+    // Damages the case now and then; whether its entering symbols, and nothing else of the table.
+    fn damaged(&mut self) -> bool {
+        let (r, c) = (&mut self.random, &mut self.case);
         if r.one_in(40) {
             let bad = [0, c.table[1] as u8, c.table[1] as u8 + 1, 255];
             let (at, b) = (r.below(c.input.len() + 1), r.of(&bad));
@@ -384,33 +456,33 @@ impl Cases {
             let n = r.of(&[1, 2, 30]);
             c.table.extend((0..n).map(|_| r.next() as u16));
         }
-        let lengths = [0, 1, 1, 2, 3, 4, 6, 10, 30, 100];
-        let mut stack = if r.one_in(3) { r.of(&lengths) } else { 300 };
-        let mut list = if r.one_in(3) { r.of(&lengths) } else { 300 };
-        c.limit = step_limit(r);
-        if r.one_in(8) {
-            // Limits that are just reached, or just missed.
-            let o = reference::parse(&c.table, &c.input, &mut self.scratch.0, &mut self.scratch.1, 3000);
-            (stack, list, c.limit) = (1000, 1000, u64::MAX);
-            let off = r.below(3);
-            match r.below(3) {
-                0 => c.limit = (o.out[1] + off as u64).saturating_sub(1),
-                1 => stack = (o.high + off).saturating_sub(1),
-                _ => list = (o.out[3] as usize + off).saturating_sub(1),
-            }
-            if c.limit < 1 << 32 && r.one_in(4) {
-                c.limit = wide_limit(r, c.limit);
-            }
+        entered_otherwise
+    }
+
+    // Limits that are just reached, or just missed, by the reading or by its fresh readings.
+    fn just_enough(&mut self) -> Lengths {
+        let (r, c) = (&mut self.random, &mut self.case);
+        let [stack, list, second] = &mut self.scratch;
+        let o = reference::parse(&c.table, &c.input, Lent { stack, list, second }, 3000);
+        let mut lengths = Lengths { stack: 1000, list: 1000, second: 1000 };
+        c.limit = u64::MAX;
+        let off = r.below(3);
+        let about = |many: usize| (many + off).saturating_sub(1);
+        match r.below(6) {
+            0 => c.limit = about(o.out[1] as usize) as u64,
+            1 => lengths.stack = about(o.high),
+            2 => lengths.list = about(o.out[3] as usize),
+            3 => c.limit = about(o.fresh_steps as usize) as u64,
+            4 => c.limit = o.out[1].max(about(o.fresh_steps as usize) as u64),
+            _ => (lengths.stack, lengths.second) = (o.high, about(o.fresh_high).max(o.high)),
         }
-        // 44 beside 26 and 27.
-        if entered_otherwise && r.one_in(4) {
-            c.input.push(0);
+        if lengths.stack < 1000 && lengths.second == 1000 {
+            lengths.second = second_length(r, lengths.stack);
         }
-        if entered_otherwise && r.one_in(4) {
-            stack = 0;
+        if c.limit < 1 << 32 && r.one_in(4) {
+            c.limit = wide_limit(r, c.limit);
         }
-        fill(r, &mut c.stack, stack);
-        fill(r, &mut c.list, list);
+        lengths
     }
 }
 
@@ -421,10 +493,11 @@ fn huge(r: &mut Random, c: &mut Case, languages: &[Language], spare: &mut Vec<u1
     c.input.clear();
     match r.below(4) {
         0 => {
-            // Sentences of card A.
+            // Sentences of card A, but for the last terminal of some.
             c.table.extend(&languages[0].table);
             c.input.push(2);
             c.input.resize(n, 1);
+            c.input[n - 1] = r.between(1, 2) as u8;
         }
         1 => {
             // Expressions: number + number * number + ..
@@ -435,28 +508,34 @@ fn huge(r: &mut Random, c: &mut Case, languages: &[Language], spare: &mut Vec<u1
             }
             c.input.truncate(n);
         }
-        2 => {
-            // Every terminal shifts, and state 2 pushes by the empty production 0 without end.
-            c.table.extend([3, 2, 1, 1, 2, 0, 0, 1, 2]);
-            c.table.extend([1024, r.of(&[1, 1024]), 2]);
-            c.table.extend([4096, 1, 0]);
-            c.table.extend([1024, 1024, 2]);
-            c.input.resize(n, 1);
-        }
-        _ => {
-            foreign(r, spare);
-            while spare[1] < 2 {
-                foreign(r, spare);
-            }
-            c.table.extend(&spare[..]);
-            let t = spare[1] as usize;
-            c.input.extend((0..n).map(|_| r.between(1, t - 1) as u8));
-        }
+        2 => pushing(r, c, n),
+        _ => huge_foreign(r, c, spare, n),
     }
     if r.one_in(4) {
         enter_otherwise(r, &mut c.table);
     }
     fill(r, &mut c.stack, 70000);
     fill(r, &mut c.list, 200000);
+    let second = r.of(&[69999, 70000, 70000, 70001, 70040]);
+    fill(r, &mut c.second, second);
     c.limit = r.of(&[150000, u32::MAX as u64, 1 << 32, u64::MAX]);
+}
+
+// Every terminal shifts, and state 2 pushes by the empty production 0 without end; at the end there may be no action.
+fn pushing(r: &mut Random, c: &mut Case, n: usize) {
+    c.table.extend([3, 2, 1, 1, 2, 0, 0, 1, 2]);
+    c.table.extend([1024, r.of(&[1, 1024]), 2]);
+    c.table.extend([r.of(&[0, 4096]), 1, 0]);
+    c.table.extend([1024, 1024, 2]);
+    c.input.resize(n, 1);
+}
+
+fn huge_foreign(r: &mut Random, c: &mut Case, spare: &mut Vec<u16>, n: usize) {
+    foreign(r, spare);
+    while spare[1] < 2 {
+        foreign(r, spare);
+    }
+    c.table.extend(&spare[..]);
+    let t = spare[1] as usize;
+    c.input.extend((0..n).map(|_| r.between(1, t - 1) as u8));
 }

@@ -1,11 +1,25 @@
 // An independent reader, written from the paper alone: the refusals in order, then the machine over a
-// growing vector. The areas are filled in at the end.
+// growing vector, and behind its 31 a fresh reading for each terminal. The areas are filled in at the end.
 
+#[derive(Default)]
 pub struct Outcome {
     pub out: [u64; 7],
     // The most stack places ever in use; 0 for a refusal.
     pub high: usize,
+    // Of the fresh readings: the most steps and places that one took, whether one stopped on 32, 33 and 35, whether one
+    // reduced more often than the list has places, and the step at which one was given up (or 0).
+    pub fresh_steps: u64,
+    pub fresh_high: usize,
+    pub stopped: [bool; 3],
+    pub past_list: bool,
+    pub endless: u64,
 }
+
+// The ends of a fresh reading that make 46 of 31.
+pub const STOPS: [u64; 3] = [32, 33, 35];
+
+// A fresh reading that makes so many steps behind the last terminal before the position is taken for endless.
+pub const PATIENCE: u64 = 3000;
 
 // The left sides, lengths, entering symbols and cells of a table that is long enough.
 fn parts(table: &[u16]) -> [&[u16]; 4] {
@@ -41,7 +55,15 @@ pub fn unnamed(table: &[u16]) -> Vec<u16> {
     (1..states).filter(|&state| !named[state]).map(|state| entered[state]).collect()
 }
 
-fn refusal(table: &[u16], input: &[u8], stack_len: usize) -> Option<u64> {
+// The terminals whose cell in the row of a state is not 0.
+pub fn top_row(table: &[u16], state: u16) -> u64 {
+    let [terminals, symbols] = [table[1], table[1] + table[2]].map(usize::from);
+    let row = &parts(table)[3][state as usize * symbols..];
+    (0..terminals).filter(|&m| row[m] != 0).map(|m| 1 << m).sum()
+}
+
+// The refusals of a table, in order.
+fn table_refusal(table: &[u16]) -> Option<u64> {
     if table.len() < 4 {
         return Some(21);
     }
@@ -74,85 +96,180 @@ fn refusal(table: &[u16], input: &[u8], stack_len: usize) -> Option<u64> {
             return Some(24);
         }
     }
-    if entered_faults(table).contains(&true) {
-        return Some(44);
+    entered_faults(table).contains(&true).then_some(44)
+}
+
+fn refusal(table: &[u16], input: &[u8], stack_len: usize, second_len: usize) -> Option<u64> {
+    if let Some(number) = table_refusal(table) {
+        return Some(number);
     }
     if input.len() > 65535 {
         return Some(25);
     }
-    if input.iter().any(|&m| m == 0 || m as usize >= terminals) {
+    if input.iter().any(|&m| m == 0 || m as usize >= table[1] as usize) {
         return Some(26);
     }
     if stack_len == 0 {
         return Some(27);
     }
-    None
+    (second_len < stack_len).then_some(45)
 }
 
-pub fn parse(table: &[u16], input: &[u8], stack: &mut [u16], list: &mut [u16], step_limit: u64) -> Outcome {
-    if let Some(n) = refusal(table, input, stack.len()) {
-        return Outcome { out: [n, 0, 0, 0, 0, 0, 0], high: 0 };
+// The machine: a table, and what it may use.
+struct Machine<'a> {
+    left: &'a [u16],
+    length: &'a [u16],
+    cells: &'a [u16],
+    symbols: usize,
+    places: usize,
+    // None: no list.
+    list: Option<usize>,
+    step_limit: u64,
+}
+
+// What a reading has done.
+struct Run {
+    states: Vec<u16>,
+    reduced: Vec<u16>,
+    position: usize,
+    steps: u64,
+    high: usize,
+}
+
+impl Machine<'_> {
+    fn start(&self) -> Run {
+        Run { states: vec![0], reduced: Vec::new(), position: 0, steps: 0, high: 1 }
+    }
+
+    fn row(&self, q: u16) -> &[u16] {
+        &self.cells[q as usize * self.symbols..][..self.symbols]
+    }
+
+    // How many states a reduction keeps, and the state that it pushes; or the end before it.
+    fn reduction(&self, run: &Run, r: usize) -> Result<(usize, u16), u64> {
+        if self.list == Some(run.reduced.len()) {
+            return Err(34);
+        }
+        if self.length[r] as usize >= run.states.len() {
+            return Err(35);
+        }
+        let keep = run.states.len() - self.length[r] as usize;
+        match self.row(run.states[keep - 1])[self.left[r] as usize] {
+            0 => Err(35),
+            state => Ok((keep, state)),
+        }
+    }
+
+    // One step with the next terminal, or the end before it; 0 with the acceptance.
+    fn step(&self, run: &mut Run, next: u8) -> Result<(), u64> {
+        let action = self.row(*run.states.last().unwrap())[next as usize];
+        if action == 0 {
+            return Err(31);
+        }
+        if run.steps == self.step_limit {
+            return Err(32);
+        }
+        if action == 4096 {
+            run.steps += 1;
+            return Err(0);
+        }
+        let shifts = action < 1024;
+        let (keep, state) =
+            if shifts { (run.states.len(), action) } else { self.reduction(run, action as usize - 1024)? };
+        if keep == self.places {
+            return Err(33);
+        }
+        if shifts {
+            run.position += 1;
+        } else {
+            run.reduced.push(action - 1024);
+        }
+        run.states.truncate(keep);
+        run.states.push(state);
+        run.high = run.high.max(run.states.len());
+        run.steps += 1;
+        Ok(())
+    }
+
+    // Reads until the input's end, or until so many terminals are shifted: the end, 0 where they are, and None where
+    // too many steps are made behind the last but one of them.
+    fn read(&self, run: &mut Run, input: &[u8], over: usize) -> Option<u64> {
+        let mut waited = 0;
+        while run.position < over {
+            let next = input.get(run.position).copied().unwrap_or(0);
+            if let Err(end) = self.step(run, next) {
+                return Some(end);
+            }
+            waited += (run.position + 1 == over) as u64;
+            if waited > PATIENCE {
+                return None;
+            }
+        }
+        Some(0)
+    }
+}
+
+// The fresh readings over the terminals before the position: what is offered, or None where one stops. All are made,
+// also behind one that stops: another reader may take them in another order, and wait for one without an end.
+fn offer(machine: &Machine, terminals: usize, before: &[u8], list: usize, o: &mut Outcome) -> Option<u64> {
+    let mut line = before.to_vec();
+    let mut offered = 0;
+    for m in 0..terminals {
+        line.truncate(before.len());
+        if m > 0 {
+            line.push(m as u8);
+        }
+        let mut run = machine.start();
+        let end = machine.read(&mut run, &line, before.len() + 1);
+        o.fresh_steps = o.fresh_steps.max(run.steps);
+        o.fresh_high = o.fresh_high.max(run.high);
+        o.past_list |= run.reduced.len() > list;
+        match end {
+            Some(0) => offered |= 1u64 << m,
+            Some(31) => {}
+            Some(number) => o.stopped[STOPS.iter().position(|&n| n == number).unwrap()] = true,
+            None => o.endless = o.endless.max(run.steps),
+        }
+    }
+    (!o.stopped.contains(&true) && o.endless == 0).then_some(offered)
+}
+
+// A call: what is lent to it.
+pub struct Lent<'a> {
+    pub stack: &'a mut [u16],
+    pub list: &'a mut [u16],
+    pub second: &'a mut [u16],
+}
+
+pub fn parse(table: &[u16], input: &[u8], lent: Lent, step_limit: u64) -> Outcome {
+    let Lent { stack, list, second } = lent;
+    let mut o = Outcome::default();
+    if let Some(n) = refusal(table, input, stack.len(), second.len()) {
+        o.out[0] = n;
+        return o;
     }
     let terminals = table[1] as usize;
     let symbols = terminals + table[2] as usize;
     let [left, length, _, cells] = parts(table);
-    let row = |q: u16| &cells[q as usize * symbols..][..symbols];
-    let left = |r: usize| left[r] as usize;
-    let length = |r: usize| length[r] as usize;
-
-    let mut states = vec![0u16];
-    let mut reduced = Vec::new();
-    let (mut position, mut steps, mut high) = (0, 0, 1);
-    let number = loop {
-        let action = row(*states.last().unwrap())[input.get(position).copied().unwrap_or(0) as usize];
-        if action == 0 {
-            break 31;
-        }
-        if steps == step_limit {
-            break 32;
-        }
-        if action == 4096 {
-            steps += 1;
-            break 0;
-        }
-        let (keep, state) = if action < 1024 {
-            (states.len(), action)
-        } else {
-            let r = action as usize - 1024;
-            if reduced.len() == list.len() {
-                break 34;
-            }
-            if length(r) >= states.len() {
-                break 35;
-            }
-            let keep = states.len() - length(r);
-            (keep, row(states[keep - 1])[left(r)])
-        };
-        if state == 0 {
-            break 35;
-        }
-        if keep == stack.len() {
-            break 33;
-        }
-        if action < 1024 {
-            position += 1;
-        } else {
-            reduced.push(action - 1024);
-        }
-        states.truncate(keep);
-        states.push(state);
-        high = high.max(states.len());
-        steps += 1;
-    };
-    stack[..high].fill(0);
-    stack[..states.len()].copy_from_slice(&states);
-    list[..reduced.len()].copy_from_slice(&reduced);
-    let mut out = [number, steps, states.len() as u64, reduced.len() as u64, 0, 0, 0];
+    let (places, places_of_list) = (stack.len(), list.len());
+    let mut machine = Machine { left, length, cells, symbols, places, list: Some(places_of_list), step_limit };
+    let mut run = machine.start();
+    // The input's end is never shifted.
+    let number = machine.read(&mut run, input, usize::MAX).unwrap();
+    stack[..run.high].fill(0);
+    stack[..run.states.len()].copy_from_slice(&run.states);
+    list[..run.reduced.len()].copy_from_slice(&run.reduced);
+    o.high = run.high;
+    o.out = [number, run.steps, run.states.len() as u64, run.reduced.len() as u64, 0, 0, 0];
     if number == 31 {
-        let expected: Vec<usize> = (0..terminals).filter(|&m| row(*states.last().unwrap())[m] != 0).collect();
-        out[4] = position as u64;
-        out[5] = expected.iter().map(|&m| 1u64 << m).sum();
-        out[6] = expected.len() as u64;
+        machine.places = second.len();
+        machine.list = None;
+        o.out[4] = run.position as u64;
+        match offer(&machine, terminals, &input[..run.position], places_of_list, &mut o) {
+            Some(set) => (o.out[5], o.out[6]) = (set, (0..64).filter(|m| set >> m & 1 == 1).count() as u64),
+            None => o.out[0] = 46,
+        }
     }
-    Outcome { out, high }
+    second.fill(0);
+    o
 }

@@ -1,7 +1,8 @@
 // A second reader, as one loop over the areas, with a switch for a deliberate fault. Without a fault
-// it is right; each fault must be found by the test.
+// it is right; each fault must be found by the test. Its fresh readings are in `offers`.
+use crate::offers;
 
-pub const FAULTS: [&str; 84] = [
+pub const FAULTS: [&str; 166] = [
     "none",
     "21: table of 4 numbers refused",
     "21 before 22",
@@ -54,10 +55,34 @@ pub const FAULTS: [&str; 84] = [
     "26: terminal T passes",
     "27 before 26",
     "27: refusal writes the list",
+    "27: refusal writes the second area",
+    "45: not checked",
+    "45: one place too few passes",
+    "45: as long as the stack refused",
+    "45: only an empty second area refused",
+    "45: lengths compared in 16 bits",
+    "45: answered as 27",
+    "45: refusal writes the second area",
+    "45: refusal writes the stack",
+    "45 before 24",
+    "45 before 44",
+    "45 before 25",
+    "45 before 26",
     "31 after 32",
     "31: position one too far at the end",
     "31: expected word of 32 bits",
     "31: end marker not counted",
+    "31: top row offered",
+    "31: row before the reductions offered",
+    "31: end marker offered for any action",
+    "31: end marker never offered",
+    "31: terminal 1 never offered",
+    "31: terminal T - 1 never offered",
+    "31: terminal 63 never offered",
+    "31: only the lowest offered",
+    "31: steps with those of the fresh readings",
+    "31: steps of a fresh reading",
+    "31: position one too far",
     "32: one step too many",
     "32: accept takes no step",
     "32: limit modulo 2^32",
@@ -77,6 +102,64 @@ pub const FAULTS: [&str; 84] = [
     "34: one place too early",
     "35: state 0 may be popped",
     "35: next state 0 pushed",
+    "46: as 31 with what was found",
+    "46: as 31 with nothing",
+    "46: only where nothing was found",
+    "46: not for the end marker",
+    "46: only for the end marker",
+    "46: not for terminal T - 1",
+    "46: answered with the number that the fresh reading stopped on",
+    "46: position left out",
+    "46: position one too far",
+    "46: steps left out",
+    "46: steps with those of the fresh readings",
+    "46: steps of the fresh reading that stopped",
+    "46: depth of the fresh reading that stopped",
+    "46: expected set of what was found",
+    "46: size of what was found",
+    "46: list cleared",
+    "46: stack of the fresh reading that stopped",
+    "fresh: behind the terminal met",
+    "fresh: over the whole input",
+    "fresh: from the stack as it is",
+    "fresh: on behind the terminal",
+    "fresh: only what ends a sentence",
+    "fresh: steps that are left",
+    "fresh: one step fewer",
+    "fresh: one step more",
+    "fresh: limit modulo 2^32",
+    "fresh: limit as a signed number",
+    "fresh: at most 65535 steps",
+    "fresh: as many places as the stack",
+    "fresh: one place fewer",
+    "fresh: one place more",
+    "fresh: at most 65535 places",
+    "fresh: 34 at the list's length",
+    "fresh: wrong at the list's length",
+    "fresh: 32 is wrong",
+    "fresh: 33 is wrong",
+    "fresh: 35 is wrong",
+    "fresh: 35 for the next state is wrong",
+    "fresh: 32 is right",
+    "fresh: acceptance takes no step",
+    "fresh: last shift takes no step",
+    "fresh: last shift takes no place",
+    "fresh: state 0 may be popped",
+    "fresh: in the stack area",
+    "fresh: list written",
+    "second area left",
+    "second area left after 0",
+    "second area left after 31",
+    "second area left after 32",
+    "second area left after 33",
+    "second area left after 34",
+    "second area left after 35",
+    "second area left after 46",
+    "second area left but after 31",
+    "second area: last place left",
+    "second area: zero as far as the stack is long",
+    "second area: zero where it was used",
+    "second area: state 0 may stand in place 0",
     "popped places left",
     "places above the stack cleared",
     "place 0 not written",
@@ -89,8 +172,8 @@ pub const FAULTS: [&str; 84] = [
 ];
 
 // A table with a switch for faults: where its parts begin.
-struct Table<'a> {
-    fault: &'static str,
+pub struct Table<'a> {
+    pub fault: &'static str,
     numbers: &'a [u16],
     lengths: usize,
     entered: usize,
@@ -114,15 +197,15 @@ impl<'a> Table<'a> {
         Table { fault, numbers, lengths, entered, cells, old }
     }
 
-    fn is(&self, name: &str) -> bool {
+    pub fn is(&self, name: &str) -> bool {
         self.fault == name
     }
 
-    fn more(&self, name: &str) -> usize {
+    pub fn more(&self, name: &str) -> usize {
         self.is(name) as usize
     }
 
-    fn at(&self, i: usize) -> usize {
+    pub fn at(&self, i: usize) -> usize {
         self.numbers.get(i).copied().unwrap_or(0) as usize
     }
 
@@ -131,15 +214,15 @@ impl<'a> Table<'a> {
         [self.at(0), self.at(1), self.at(1) + self.at(2), self.at(3)]
     }
 
-    fn cell(&self, s: usize, x: usize) -> usize {
+    pub fn cell(&self, s: usize, x: usize) -> usize {
         self.at(self.cells + s * (self.at(1) + self.at(2)) + x)
     }
 
-    fn left(&self, r: usize) -> usize {
+    pub fn left(&self, r: usize) -> usize {
         self.at(4 + r)
     }
 
-    fn length(&self, r: usize) -> usize {
+    pub fn length(&self, r: usize) -> usize {
         self.at(self.lengths + r)
     }
 
@@ -246,21 +329,37 @@ impl<'a> Table<'a> {
     }
 
     // The refusals behind 21 and 22, in order.
-    fn order(&self) -> [u64; 6] {
+    fn order(&self) -> [u64; 7] {
         match self.fault {
-            "24 before 23" => [24, 23, 44, 25, 26, 27],
-            "44 before 23" => [44, 23, 24, 25, 26, 27],
-            "44 before 24" => [23, 44, 24, 25, 26, 27],
-            "44 after 25" => [23, 24, 25, 44, 26, 27],
-            "44 after 26" => [23, 24, 25, 26, 44, 27],
-            "44 after 27" => [23, 24, 25, 26, 27, 44],
-            "27 before 26" => [23, 24, 44, 25, 27, 26],
-            _ => [23, 24, 44, 25, 26, 27],
+            "24 before 23" => [24, 23, 44, 25, 26, 27, 45],
+            "44 before 23" => [44, 23, 24, 25, 26, 27, 45],
+            "44 before 24" => [23, 44, 24, 25, 26, 27, 45],
+            "44 after 25" => [23, 24, 25, 44, 26, 27, 45],
+            "44 after 26" => [23, 24, 25, 26, 44, 27, 45],
+            "44 after 27" => [23, 24, 25, 26, 27, 44, 45],
+            "27 before 26" => [23, 24, 44, 25, 27, 26, 45],
+            "45 before 24" => [23, 45, 24, 44, 25, 26, 27],
+            "45 before 44" => [23, 24, 45, 44, 25, 26, 27],
+            "45 before 25" => [23, 24, 44, 45, 25, 26, 27],
+            "45 before 26" => [23, 24, 44, 25, 45, 26, 27],
+            _ => [23, 24, 44, 25, 26, 27, 45],
+        }
+    }
+
+    // Whether the second area is too short.
+    fn second_short(&self, stack: usize, second: usize) -> bool {
+        match self.fault {
+            "45: not checked" => false,
+            "45: one place too few passes" => second + 1 < stack,
+            "45: as long as the stack refused" => second <= stack,
+            "45: only an empty second area refused" => second == 0,
+            "45: lengths compared in 16 bits" => (second as u16) < stack as u16,
+            _ => second < stack,
         }
     }
 
     // The refusal of a call, 0 where there is none.
-    fn refusal(&self, input: &[u8], stack_len: usize) -> u64 {
+    fn refusal(&self, c: &Call) -> u64 {
         let sizes = self.bad_sizes();
         if sizes != 0 {
             return sizes;
@@ -271,9 +370,10 @@ impl<'a> Table<'a> {
             23 => self.bad_production(),
             24 => self.bad_cell(),
             44 => self.bad_entered(),
-            25 => input.len() > 65535 + self.more("25: 65536 terminals pass"),
-            26 => input.iter().any(|&b| b == 0 && zero || b as usize >= most),
-            _ => stack_len == 0,
+            25 => c.input.len() > 65535 + self.more("25: 65536 terminals pass"),
+            26 => c.input.iter().any(|&b| b == 0 && zero || b as usize >= most),
+            27 => c.stack.is_empty(),
+            _ => self.second_short(c.stack.len(), c.second.len()),
         };
         self.order().into_iter().find(applies).unwrap_or(0)
     }
@@ -298,121 +398,157 @@ fn allowed(fault: &str, limit: u64) -> u64 {
     }
 }
 
-pub fn parse(fault: usize, t: &[u16], input: &[u8], stack: &mut [u16], list: &mut [u16], limit: u64) -> [u64; 7] {
-    let is = |name: &str| FAULTS[fault] == name;
-    let more = |name: &str| is(name) as usize;
-    let refuse = |n: u64| [n, 0, 0, 0, 0, 0, 0];
-    if t.len() < 4 || is("21: table of 4 numbers refused") && t.len() == 4 {
-        return refuse(21);
-    }
-    let table = Table::new(FAULTS[fault], t);
-    let refusal = table.refusal(input, stack.len());
-    if refusal != 0 {
-        if refusal == 27 && is("27: refusal writes the list") {
-            list.fill(0);
-        }
-        if refusal == 44 && is("44: refusal writes the stack") {
-            stack.fill(0);
-        }
-        return refuse(if refusal == 44 && is("44: answered as 24") { 24 } else { refusal });
-    }
-    let m = table.at(1);
+// What a call is handed.
+pub struct Call<'a> {
+    pub table: &'a [u16],
+    pub input: &'a [u8],
+    pub stack: &'a mut [u16],
+    pub list: &'a mut [u16],
+    pub second: &'a mut [u16],
+    pub limit: u64,
+}
 
-    if !is("place 0 not written") {
-        stack[0] = 0;
+// Where a reading stands.
+pub struct Spot {
+    pub depth: usize,
+    pub listed: usize,
+    pub pos: usize,
+    pub steps: u64,
+    top: usize,
+}
+
+fn refused(table: &Table, refusal: u64, c: &mut Call) -> [u64; 7] {
+    match (refusal, table.fault) {
+        (27, "27: refusal writes the list") => c.list.fill(0),
+        (27, "27: refusal writes the second area") => c.second.fill(0),
+        (44, "44: refusal writes the stack") => c.stack.fill(0),
+        (45, "45: refusal writes the second area") => c.second.fill(0),
+        (45, "45: refusal writes the stack") => c.stack[0] = 0,
+        _ => {}
     }
-    let (mut depth, mut listed, mut pos, mut steps, mut top) = (1, 0, 0, 0u64, 0);
-    let allowed = allowed(FAULTS[fault], limit);
-    let room = stack.len() - more("33: one place kept free").min(stack.len() - 1);
-    let lines = list.len() - more("34: one place too early").min(list.len());
-    let end = loop {
-        let a = table.cell(top, input.get(pos).copied().unwrap_or(0) as usize);
-        let out_of_steps = steps == allowed;
-        if is("31 after 32") && out_of_steps {
-            break 32;
-        }
-        if a == 0 {
-            break 31;
-        }
-        if out_of_steps && !(a == 4096 && is("32: accept takes no step")) {
-            break 32;
-        }
-        if a < 1024 {
-            if depth >= room {
-                break 33;
-            }
-            stack[depth] = a as u16;
-            depth += 1;
-            pos += 1;
-            top = a;
-        } else if a == 4096 {
-            steps += !is("32: accept takes no step") as u64;
-            break 0;
-        } else {
-            let r = a - 1024;
-            let mut n = table.length(r);
-            let full = listed >= lines;
-            if full && !is("34 after 35") {
-                break 34;
-            }
-            if is("33 before 35") && n == 0 && depth >= room
-                || is("33: full stack stops every reduction") && depth >= room
-            {
-                break 33;
-            }
-            if n >= depth {
-                if !is("35: state 0 may be popped") || n > depth {
-                    break 35;
-                }
-                n = depth - 1;
-            }
-            let next = table.cell(stack[depth - n - 1] as usize, table.left(r));
-            if next == 0 && !is("35: next state 0 pushed") {
-                break 35;
-            }
-            if full {
-                break 34;
-            }
-            if depth - n >= room {
-                break 33;
-            }
-            if !is("popped places left") {
-                stack[depth - n..depth].fill(0);
-            }
-            depth -= n;
-            stack[depth] = next as u16;
-            depth += 1;
-            top = next;
-            list[listed] = (r + 1024 * more("production + 1024 listed")) as u16;
-            listed += 1;
-        }
-        steps += 1;
+    let told = match (refusal, table.fault) {
+        (44, "44: answered as 24") => 24,
+        (45, "45: answered as 27") => 27,
+        _ => refusal,
     };
-    if is("places above the stack cleared") {
-        stack[depth..].fill(0);
+    [told, 0, 0, 0, 0, 0, 0]
+}
+
+// A reduction, or the end before it.
+fn reduce(table: &Table, c: &mut Call, s: &mut Spot, r: usize, room: usize) -> Result<(), u64> {
+    let mut n = table.length(r);
+    let full = s.listed >= c.list.len() - table.more("34: one place too early").min(c.list.len());
+    if full && !table.is("34 after 35") {
+        return Err(34);
     }
-    if is("list cleared behind") {
-        list[listed..].fill(0);
+    if table.is("33 before 35") && n == 0 && s.depth >= room
+        || table.is("33: full stack stops every reduction") && s.depth >= room
+    {
+        return Err(33);
     }
-    let cut = |n: usize, name: &str| if is(name) { n as u16 as u64 } else { n as u64 };
-    let mut out = [end, steps, 0, 0, 0, 0, 0];
-    if is("steps counted in 16 bits") {
-        out[1] %= 1 << 16;
-    }
-    if is("steps with the limit's upper half") {
-        out[1] |= limit >> 32 << 32;
-    }
-    out[2] = cut(depth, "depth counted in 16 bits");
-    out[3] = cut(listed, "listed counted in 16 bits");
-    if end == 31 {
-        let past = is("31: position one too far at the end") && pos == input.len();
-        out[4] = pos as u64 + past as u64;
-        for x in 0..m {
-            if table.cell(top, x) != 0 {
-                out[5] |= if is("31: expected word of 32 bits") { 1u64 << (x % 32) } else { 1u64 << x };
-                out[6] += !(x == 0 && is("31: end marker not counted")) as u64;
-            }
+    if n >= s.depth {
+        if !table.is("35: state 0 may be popped") || n > s.depth {
+            return Err(35);
         }
+        n = s.depth - 1;
     }
+    let next = table.cell(c.stack[s.depth - n - 1] as usize, table.left(r));
+    if next == 0 && !table.is("35: next state 0 pushed") {
+        return Err(35);
+    }
+    if full {
+        return Err(34);
+    }
+    if s.depth - n >= room {
+        return Err(33);
+    }
+    if !table.is("popped places left") {
+        c.stack[s.depth - n..s.depth].fill(0);
+    }
+    s.depth -= n;
+    c.stack[s.depth] = next as u16;
+    s.depth += 1;
+    s.top = next;
+    c.list[s.listed] = (r + 1024 * table.more("production + 1024 listed")) as u16;
+    s.listed += 1;
+    Ok(())
+}
+
+// A step, or the end before it; 0 with the acceptance.
+fn step(table: &Table, c: &mut Call, s: &mut Spot, allowed: u64) -> Result<(), u64> {
+    let room = c.stack.len() - table.more("33: one place kept free").min(c.stack.len() - 1);
+    let a = table.cell(s.top, c.input.get(s.pos).copied().unwrap_or(0) as usize);
+    let out_of_steps = s.steps == allowed;
+    if table.is("31 after 32") && out_of_steps {
+        return Err(32);
+    }
+    if a == 0 {
+        return Err(31);
+    }
+    if out_of_steps && !(a == 4096 && table.is("32: accept takes no step")) {
+        return Err(32);
+    }
+    if a == 4096 {
+        s.steps += !table.is("32: accept takes no step") as u64;
+        return Err(0);
+    }
+    if a >= 1024 {
+        reduce(table, c, s, a - 1024, room)?;
+    } else {
+        if s.depth >= room {
+            return Err(33);
+        }
+        c.stack[s.depth] = a as u16;
+        s.depth += 1;
+        s.pos += 1;
+        s.top = a;
+    }
+    s.steps += 1;
+    Ok(())
+}
+
+// The seven numbers of an end, but for what 31 and 46 add.
+fn numbers(table: &Table, end: u64, s: &Spot, limit: u64) -> [u64; 7] {
+    let cut = |n: usize, name: &str| if table.is(name) { n as u16 as u64 } else { n as u64 };
+    let mut steps = s.steps;
+    if table.is("steps counted in 16 bits") {
+        steps %= 1 << 16;
+    }
+    if table.is("steps with the limit's upper half") {
+        steps |= limit >> 32 << 32;
+    }
+    let depth = cut(s.depth, "depth counted in 16 bits");
+    [end, steps, depth, cut(s.listed, "listed counted in 16 bits"), 0, 0, 0]
+}
+
+pub fn parse(fault: usize, mut c: Call) -> [u64; 7] {
+    let fault = FAULTS[fault];
+    if c.table.len() < 4 || fault == "21: table of 4 numbers refused" && c.table.len() == 4 {
+        return [21, 0, 0, 0, 0, 0, 0];
+    }
+    let table = Table::new(fault, c.table);
+    let refusal = table.refusal(&c);
+    if refusal != 0 {
+        return refused(&table, refusal, &mut c);
+    }
+    if !table.is("place 0 not written") {
+        c.stack[0] = 0;
+    }
+    let mut s = Spot { depth: 1, listed: 0, pos: 0, steps: 0, top: 0 };
+    let allowed = allowed(fault, c.limit);
+    let end = loop {
+        if let Err(end) = step(&table, &mut c, &mut s, allowed) {
+            break end;
+        }
+    };
+    if table.is("places above the stack cleared") {
+        c.stack[s.depth..].fill(0);
+    }
+    if table.is("list cleared behind") {
+        c.list[s.listed..].fill(0);
+    }
+    let mut out = numbers(&table, end, &s, c.limit);
+    let used = if end == 31 { offers::answer(&table, &mut c, &s, &mut out) } else { 0 };
+    offers::leave(&table, &mut c, used, out[0]);
     out
 }

@@ -1,4 +1,5 @@
-//! The parser of the paper, plainly: refusals 21 to 27 and 44, then the machine.
+//! The parser of the paper, plainly: refusals 21 to 27, 44 and 45, then the machine,
+//! and behind its 31 a fresh reading for each terminal.
 
 /// What a parse answers; `out` has the order of the C boundary.
 #[derive(Clone, Copy, Debug, Default, PartialEq, Eq)]
@@ -39,13 +40,25 @@ struct Table<'a> {
     rows: Vec<&'a [u16]>,
 }
 
+/// Whether a cell has a value of its column, in a table of `q` states, `t` terminals and
+/// `p` productions.
+fn is_good(column: usize, cell: usize, [q, t, p]: [usize; 3]) -> bool {
+    let state = (1..q).contains(&cell);
+    let reduce = (1024..1024 + p).contains(&cell);
+    match column {
+        _ if cell == 0 => true,
+        0 => reduce || cell == 4096,
+        _ if column < t => state || reduce,
+        _ => state,
+    }
+}
+
 /// Refusals 21 to 24, then 44.
 fn table_of(numbers: &[u16]) -> Result<Table<'_>, u64> {
     if numbers.len() < 4 {
         return Err(21);
     }
-    let size = |i: usize| numbers[i] as usize;
-    let (q, t, n, p) = (size(0), size(1), size(2), size(3));
+    let [q, t, n, p] = [0, 1, 2, 3].map(|at| numbers[at] as usize);
     let fits = (1..=256).contains(&q)
         && (1..=64).contains(&t)
         && (1..=60).contains(&n)
@@ -64,34 +77,157 @@ fn table_of(numbers: &[u16]) -> Result<Table<'_>, u64> {
     }
     let (entered, cells) = numbers[4 + 2 * p..].split_at(q);
     let rows: Vec<&[u16]> = cells.chunks(t + n).take(q).collect();
-    for row in &rows {
-        for (column, &cell) in row.iter().enumerate() {
-            let cell = cell as usize;
-            let state = (1..q).contains(&cell);
-            let reduce = (1024..1024 + p).contains(&cell);
-            let good = match column {
-                _ if cell == 0 => true,
-                0 => reduce || cell == 4096,
-                _ if column < t => state || reduce,
-                _ => state,
-            };
-            if !good {
-                return Err(24);
-            }
-        }
+    let all = || rows.iter().flat_map(|row| row.iter().map(|&cell| cell as usize).enumerate());
+    if !all().all(|(column, cell)| is_good(column, cell, [q, t, p])) {
+        return Err(24);
     }
-    if entered[0] != 0 || entered.iter().any(|&symbol| symbol as usize >= t + n) {
+    let named = |cell: usize| (1..q).contains(&cell).then(|| entered[cell] as usize);
+    if entered[0] != 0
+        || entered.iter().any(|&symbol| symbol as usize >= t + n)
+        || all().any(|(column, cell)| named(cell).is_some_and(|symbol| symbol != column))
+    {
         return Err(44);
     }
-    for row in &rows {
-        for (column, &cell) in row.iter().enumerate() {
-            let names = (1..q).contains(&(cell as usize));
-            if names && entered[cell as usize] as usize != column {
-                return Err(44);
-            }
+    Ok(Table { terminals: t, lefts, lengths, rows })
+}
+
+/// A reading under way.
+struct Reading<'a> {
+    table: &'a Table<'a>,
+    input: &'a [u8],
+    stack: &'a mut [u16],
+    /// A fresh reading has none.
+    list: Option<&'a mut [u16]>,
+    step_limit: u64,
+    steps: u64,
+    depth: usize,
+    listed: usize,
+    position: usize,
+}
+
+impl<'a> Reading<'a> {
+    fn new(
+        table: &'a Table<'a>,
+        input: &'a [u8],
+        stack: &'a mut [u16],
+        list: Option<&'a mut [u16]>,
+        step_limit: u64,
+    ) -> Reading<'a> {
+        stack[0] = 0;
+        let (steps, depth, listed, position) = (0, 1, 0, 0);
+        Reading { table, input, stack, list, step_limit, steps, depth, listed, position }
+    }
+
+    /// Makes a step, or gives the end that comes before it; 0 with the acceptance.
+    fn step(&mut self) -> Option<u64> {
+        let next = self.input.get(self.position).map_or(0, |&m| m as usize);
+        let cell = self.table.rows[self.stack[self.depth - 1] as usize][next];
+        if cell == 0 {
+            return Some(31);
+        }
+        if self.steps == self.step_limit {
+            return Some(32);
+        }
+        let end = match cell {
+            4096 => Some(0),
+            1024.. => self.reduce(cell as usize - 1024),
+            _ => self.shift(cell),
+        };
+        if matches!(end, None | Some(0)) {
+            self.steps += 1;
+        }
+        end
+    }
+
+    fn shift(&mut self, state: u16) -> Option<u64> {
+        if self.depth == self.stack.len() {
+            return Some(33);
+        }
+        self.stack[self.depth] = state;
+        self.depth += 1;
+        self.position += 1;
+        None
+    }
+
+    fn reduce(&mut self, production: usize) -> Option<u64> {
+        let length = self.table.lengths[production] as usize;
+        if self.list.as_ref().is_some_and(|list| list.len() == self.listed) {
+            return Some(34);
+        }
+        if length >= self.depth {
+            return Some(35);
+        }
+        let below = self.table.rows[self.stack[self.depth - 1 - length] as usize];
+        let next = below[self.table.lefts[production] as usize];
+        if next == 0 {
+            return Some(35);
+        }
+        if self.depth - length == self.stack.len() {
+            return Some(33);
+        }
+        self.stack[self.depth - length..self.depth].fill(0);
+        self.depth -= length;
+        self.stack[self.depth] = next;
+        self.depth += 1;
+        if let Some(list) = &mut self.list {
+            list[self.listed] = production as u16;
+            self.listed += 1;
+        }
+        None
+    }
+}
+
+/// How a fresh reading ends over the terminals before the position and one more: with
+/// 0 once that is shifted. For the end marker it reads those before alone, and 0 is
+/// the acceptance.
+fn fresh(
+    table: &Table,
+    before: &[u8],
+    terminal: usize,
+    second: &mut [u16],
+    step_limit: u64,
+) -> u64 {
+    let mut line = before.to_vec();
+    if terminal != 0 {
+        line.push(terminal as u8);
+    }
+    let mut reading = Reading::new(table, &line, second, None, step_limit);
+    loop {
+        if reading.position > before.len() {
+            return 0;
+        }
+        if let Some(end) = reading.step() {
+            return end;
         }
     }
-    Ok(Table { terminals: t, lefts, lengths, rows })
+}
+
+/// The terminals that can follow those before the position, one fresh reading for
+/// each; none where a reading stops on 32, 33 or 35.
+fn offer(table: &Table, before: &[u8], second: &mut [u16], step_limit: u64) -> Option<u64> {
+    let mut offered = 0;
+    for terminal in 0..table.terminals {
+        match fresh(table, before, terminal, second, step_limit) {
+            0 => offered |= 1 << terminal,
+            31 => {}
+            _ => return None,
+        }
+    }
+    Some(offered)
+}
+
+/// Refusals 25 to 27, then 45.
+fn lent(terminals: usize, input: &[u8], stack: &[u16], second: &[u16]) -> Option<u64> {
+    if input.len() > 65_535 {
+        return Some(25);
+    }
+    if input.iter().any(|&m| m == 0 || m as usize >= terminals) {
+        return Some(26);
+    }
+    if stack.is_empty() {
+        return Some(27);
+    }
+    (second.len() < stack.len()).then_some(45)
 }
 
 /// Reads the input with the table.
@@ -100,6 +236,7 @@ pub fn parse(
     input: &[u8],
     stack: &mut [u16],
     list: &mut [u16],
+    second: &mut [u16],
     step_limit: u64,
 ) -> Outcome {
     let refused = |number| Outcome { number, ..Outcome::default() };
@@ -107,80 +244,30 @@ pub fn parse(
         Ok(table) => table,
         Err(number) => return refused(number),
     };
-    if input.len() > 65_535 {
-        return refused(25);
+    if let Some(number) = lent(table.terminals, input, stack, second) {
+        return refused(number);
     }
-    if input.iter().any(|&m| m == 0 || m as usize >= table.terminals) {
-        return refused(26);
+    let mut reading = Reading::new(&table, input, stack, Some(list), step_limit);
+    let number = loop {
+        if let Some(end) = reading.step() {
+            break end;
+        }
+    };
+    let Reading { steps, depth, listed, position, .. } = reading;
+    let (depth, listed) = (depth as u64, listed as u64);
+    let mut end = Outcome { number, steps, depth, listed, ..Outcome::default() };
+    if number == 31 {
+        end.position = position as u64;
+        match offer(&table, &input[..position], second, step_limit) {
+            Some(offered) => {
+                end.expected = offered;
+                end.expected_count = u64::from(offered.count_ones());
+            }
+            None => end.number = 46,
+        }
     }
-    if stack.is_empty() {
-        return refused(27);
-    }
-    stack[0] = 0;
-    let (mut steps, mut depth, mut listed, mut position) = (0u64, 1, 0, 0);
-    let mut end = Outcome::default();
-    loop {
-        let row = table.rows[stack[depth - 1] as usize];
-        let cell = row[input.get(position).map_or(0, |&m| m as usize)];
-        if cell == 0 {
-            end.number = 31;
-            end.position = position as u64;
-            for terminal in 0..table.terminals {
-                if row[terminal] != 0 {
-                    end.expected |= 1 << terminal;
-                    end.expected_count += 1;
-                }
-            }
-            break;
-        }
-        if steps == step_limit {
-            end.number = 32;
-            break;
-        }
-        if cell == 4096 {
-            steps += 1;
-            end.number = 0;
-            break;
-        }
-        if cell >= 1024 {
-            let production = cell as usize - 1024;
-            let length = table.lengths[production] as usize;
-            if listed == list.len() {
-                end.number = 34;
-                break;
-            }
-            if length >= depth {
-                end.number = 35;
-                break;
-            }
-            let below = table.rows[stack[depth - 1 - length] as usize];
-            let next = below[table.lefts[production] as usize];
-            if next == 0 {
-                end.number = 35;
-                break;
-            }
-            if depth - length == stack.len() {
-                end.number = 33;
-                break;
-            }
-            stack[depth - length..depth].fill(0);
-            depth -= length;
-            stack[depth] = next;
-            depth += 1;
-            list[listed] = production as u16;
-            listed += 1;
-        } else {
-            if depth == stack.len() {
-                end.number = 33;
-                break;
-            }
-            stack[depth] = cell;
-            depth += 1;
-            position += 1;
-        }
-        steps += 1;
-    }
-    Outcome { steps, depth: depth as u64, listed: listed as u64, ..end }
+    second.fill(0);
+    end
 }
 
 #[cfg(test)]
@@ -194,7 +281,10 @@ mod tests {
 
     fn read(input: &[u8], stack: usize, list: usize, limit: u64) -> ([u64; 7], Vec<u16>) {
         let (mut stack, mut list) = (vec![7; stack], vec![7; list]);
-        (parse(&A, input, &mut stack, &mut list, limit).out(), list)
+        let mut second = stack.clone();
+        let out = parse(&A, input, &mut stack, &mut list, &mut second, limit).out();
+        assert!(second.iter().all(|&place| place == 0));
+        (out, list)
     }
 
     #[test]
@@ -209,11 +299,44 @@ mod tests {
         assert_eq!(read(&[2, 2], 9, 9, 99).0, [31, 1, 2, 0, 1, 3, 2]);
     }
 
+    /// The seven numbers with a stack and a second area of so many places and no list.
+    fn fresh_readings(table: &[u16], input: &[u8], areas: [usize; 2], limit: u64) -> [u64; 7] {
+        let (mut stack, mut second) = (vec![7; areas[0]], vec![7; areas[1]]);
+        let out = parse(table, input, &mut stack, &mut [], &mut second, limit).out();
+        let old = if out[0] == 45 { 7 } else { 0 };
+        assert!(second.iter().all(|&place| place == old));
+        out
+    }
+
+    #[test]
+    fn fresh_readings_need_steps_and_places() {
+        let read = |input: &[u8], areas, limit| fresh_readings(&A, input, areas, limit);
+        assert_eq!(read(&[], [2, 2], 1), [31, 0, 1, 0, 0, 4, 1]);
+        assert_eq!(read(&[], [2, 2], 0), [46, 0, 1, 0, 0, 0, 0]);
+        assert_eq!(read(&[], [1, 1], 1), [46, 0, 1, 0, 0, 0, 0]);
+        assert_eq!(read(&[2, 2], [3, 3], 3), [31, 1, 2, 0, 1, 3, 2]);
+        assert_eq!(read(&[2, 2], [2, 3], 3), [31, 1, 2, 0, 1, 3, 2]);
+        for limit in [1, 2] {
+            assert_eq!(read(&[2, 2], [3, 3], limit), [46, 1, 2, 0, 1, 0, 0]);
+        }
+        assert_eq!(read(&[2, 2], [2, 2], 99), [46, 1, 2, 0, 1, 0, 0]);
+        // Shorter than the stack: nothing is read.
+        assert_eq!(read(&[2, 2], [3, 2], 99), [45, 0, 0, 0, 0, 0, 0]);
+    }
+
+    #[test]
+    fn a_fresh_reading_that_breaks_off() {
+        // Terminal 1 is shifted; behind it 2 reduces by a production of three symbols.
+        let table = [3, 3, 1, 1, 3, 3, 0, 1, 3, 0, 1, 0, 2, 0, 0, 1024, 0, 4096, 0, 0, 0];
+        assert_eq!(fresh_readings(&table, &[1, 1], [9, 9], 99), [46, 1, 2, 0, 1, 0, 0]);
+        assert_eq!(fresh_readings(&table, &[2], [9, 9], 99), [31, 0, 1, 0, 0, 2, 1]);
+    }
+
     /// Card A's table with other numbers at some places, read with a good input.
     fn damaged(places: &[(usize, u16)]) -> u64 {
         let mut table = A;
         places.iter().for_each(|&(place, number)| table[place] = number);
-        parse(&table, &[2, 1], &mut [0; 9], &mut [0; 9], 99).number
+        parse(&table, &[2, 1], &mut [0; 9], &mut [0; 9], &mut [0; 9], 99).number
     }
 
     #[test]
@@ -232,6 +355,6 @@ mod tests {
         assert_eq!(unnamed(4), 44);
         // A table of the old form is short of the Q numbers.
         let old: Vec<u16> = [&A[..8], &A[12..]].concat();
-        assert_eq!(parse(&old, &[2, 1], &mut [0; 9], &mut [0; 9], 99).number, 21);
+        assert_eq!(parse(&old, &[2, 1], &mut [0; 9], &mut [0; 9], &mut [0; 9], 99).number, 21);
     }
 }

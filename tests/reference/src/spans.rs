@@ -13,6 +13,19 @@ pub enum Derivations {
 /// A nonterminal with the part of the input it derives.
 type Part = (usize, usize, usize);
 
+/// What can follow an input that begins a sentence, by one test for each terminal: bit m
+/// where the input and m begin a sentence, bit 0 where it is one. As inputs, of at most 62
+/// terminals.
+pub fn follow(grammar: &Grammar, input: &[u8]) -> u64 {
+    let mut line = [input, &[0]].concat();
+    let mut found = u64::from(Spans::new(grammar, input).sentence());
+    for terminal in 1..grammar.card.terminals {
+        line[input.len()] = terminal as u8;
+        found |= u64::from(Spans::new(grammar, &line).begins()) << terminal;
+    }
+    found
+}
+
 pub struct Spans<'a> {
     grammar: &'a Grammar,
     input: &'a [u8],

@@ -7,7 +7,7 @@ use reference::derivation::{is_rightmost, sentence, Shortest};
 use reference::earley::recognise;
 use reference::grammar::{useless, Grammar};
 use reference::random::Random;
-use reference::spans::{Derivations, Spans};
+use reference::spans::{follow, Derivations, Spans};
 
 /// A random card without useless nonterminals.
 fn card(random: &mut Random) -> Card {
@@ -78,6 +78,8 @@ fn three_ways_agree() {
             let spans = Spans::new(&grammar, &input);
             assert_eq!(found.sentence, spans.sentence(), "{card:?} {input:?}");
             assert_eq!(found.begins == input.len(), spans.begins(), "{card:?} {input:?}");
+            let before = &input[..found.begins];
+            assert_eq!(found.follow, follow(&grammar, before), "{card:?} {input:?}");
             assert!(found.sentence || !by_steps, "{card:?} {input:?}");
             // What the cut-off search lacks needs strings longer than 6.
             if found.sentence && !by_steps {

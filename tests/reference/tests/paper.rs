@@ -1,6 +1,11 @@
 //! The cards and inputs that the paper prints.
 
 use reference::answer::{reference, Answer};
+use reference::card::parse as card_of;
+use reference::earley::recognise;
+use reference::grammar::Grammar;
+use reference::parser::parse;
+use reference::spans::follow;
 
 fn answer(card: &[u16]) -> Answer {
     reference(card, 10_000, true).answer
@@ -88,4 +93,28 @@ fn misreadings() {
     let unmerged =
         [6, 3, 6, 14, 6, 6, 6, 6, 7, 8, 3, 3, 3, 3, 1, 1, 1, 7, 4, 2, 8, 4, 1, 8, 5, 2, 7, 5, 3, 3];
     assert_eq!(refused(&unmerged), [13, 4, 4, 1028, 1029]);
+}
+
+/// Number, steps, position and expected set with the table of a card; the set is looked
+/// at without LR, too.
+fn offer(card: &[u16], input: &[u8]) -> [u64; 4] {
+    let Answer::Table(table) = answer(card) else { panic!("{card:?}") };
+    let (mut stack, mut list, mut second) = ([7; 9], [7; 9], [7; 9]);
+    let end = parse(&table, input, &mut stack, &mut list, &mut second, 99);
+    let grammar = Grammar::new(card_of(card).expect("a card"));
+    assert_eq!(end.expected, recognise(&grammar, input).follow);
+    assert_eq!(end.expected, follow(&grammar, &input[..end.position as usize]));
+    assert_eq!(end.expected_count, u64::from(end.expected.count_ones()));
+    [end.number, end.steps, end.position, end.expected]
+}
+
+#[test]
+fn terminals_that_can_follow() {
+    // S -> 1 S 2 | 1: 1 1 is reduced at the end; the row then has 2 alone.
+    assert_eq!(offer(&[3, 1, 2, 4, 3, 3, 3, 1, 1, 3, 2, 1], &[1, 1]), [31, 3, 2, 6]);
+    // S -> A A, A -> 1: the row before 2 has a reduction for 0, too.
+    assert_eq!(offer(&[3, 2, 2, 3, 4, 3, 1, 2, 1, 4, 4], &[1, 2]), [31, 1, 1, 2]);
+    // A: the empty input, and 2 2
+    assert_eq!(offer(&[3, 1, 2, 3, 3, 3, 2, 1, 3, 1, 2], &[]), [31, 0, 0, 4]);
+    assert_eq!(offer(&[3, 1, 2, 3, 3, 3, 2, 1, 3, 1, 2], &[2, 2]), [31, 1, 1, 3]);
 }

@@ -1,120 +1,125 @@
 use denote.Ref.{now}
 use borrow.Author.Needs.{needs}
-use mathlib.Core.Path.{ap, _∙_}
-use mathlib.Core.List.{List, _∷_}
-use Prim.Native.Nat.{ℕ}
+use native.Mathlib.Omega.{arith}
+use mathlib.Core.Path.{refl, _∙_}
 use lib.ListN.{length-set}
 use Rattle.machine.specs.ComputedRun.{start}
-use Rattle.machine.proofs.Checked.{passed, cells-within}
+use Rattle.machine.proofs.Checked.{cells-within}
 use Rattle.parser.specs.Phases.{countBits}
-use Rattle.parser.proofs.Held.{action-within, row-in, steppable}
-use Rattle.parser.proofs.Going.{Going, going-start, countable, countable-next, stop-31, stop-32, stop-step, accept-step, falls, goes-on}
+use Rattle.parser.proofs.Running.{Running, held-left, running-start, run-ends, pausing, countable-so, spent-ends, less-left, running-on}
 use Rattle.parser.proofs.run.Statement.{statement}
 use Rattle.parser.proofs.run.Tie as tie
 
 abbrev Inv-loop : tie.InvT-loop
-Inv-loop table input stack₀ list₀ step-limit z cells s₀ stack list s = Going table input cells stack₀ list₀ step-limit z stack list s
+Inv-loop table input stack₀ list₀ second₀ step-limit z cells s₀ checkpoint₀ left₀ stack list second s checkpoint left =
+    Running table input cells step-limit z stack₀ list₀ second₀ stack list second s checkpoint left
 
 abbrev μ-loop : tie.MeasureT-loop
-μ-loop table input stack₀ list₀ step-limit z cells s₀ stack list s = s .left
+μ-loop table input stack₀ list₀ second₀ step-limit z cells s₀ checkpoint₀ left₀ stack list second s checkpoint left = left
 
 shape-of-requires : tie.Need-shape-of-requires Inv-loop μ-loop
-shape-of-requires c κs = passed _ _ _ (c .before .before .before .before .pre) .table .long
+shape-of-requires c κs = c .before .before .before .before .before .pre .0 .table .long
 
 cells-of-requires : tie.Need-cells-of-requires Inv-loop μ-loop
-cells-of-requires c κs = cells-within (passed _ _ _ (c .before .before .before .before .before .pre) .table) (c .shape-of .ensures)
+cells-of-requires c κs = cells-within (c .before .before .before .before .before .before .pre .0 .table) (c .shape-of .ensures)
 
 slice-write-stack : tie.Need-slice-write-stack Inv-loop μ-loop
-slice-write-stack c = passed _ _ _ (c .before .before .before .before .before .before .pre) .places
+slice-write-stack c = c .before .before .before .before .before .before .before .pre .0 .places
 
 loop-holds : tie.Need-loop-holds Inv-loop μ-loop
-loop-holds c = let b6 = c .before .before .before .before .before .before in going-start (now (b6 .args .stack)) _ (passed _ _ _ (b6 .pre)) (c .before .shape-of .ensures) (c .cells-of .ensures)
+loop-holds c =
+    let b3 = c .before .before .before in
+    let b9 = b3 .before .before .before .before .before .before in
+    rw (c .no-checkpoint .ensures, c .before .at-start .ensures) (running-start (now (b9 .args .stack)) _ (b9 .pre .0) (b9 .pre .1) (b3 .shape-of .ensures) (c .before .before .cells-of .ensures))
 
-action-requires : tie.Need-action-requires Inv-loop μ-loop
-action-requires c κs = action-within (c .loop .inv .held) (passed _ _ _ (c .before .before .before .before .before .before .before .pre))
-
-no-action-requires : tie.Need-no-action-requires Inv-loop μ-loop
-no-action-requires c κs =
-    let b2 = c .before .before in
-    let r = row-in (b2 .loop .inv .held) in
-    (r .0, r .1, countable (b2 .loop .inv) countBits (b2 .before .before .before .before .before .before .before .fits .step-limit .fits))
+advance-requires : tie.Need-advance-requires Inv-loop μ-loop
+advance-requires c κs =
+    let b4 = c .before .before .before .before in
+    let b9 = b4 .before .before .before .before .before in
+    let b14 = b9 .before .before .before .before .before in
+    let g = b4 .loop .inv in
+    let e = g .stacks ∙ length-set (now (b14 .args .stack)) 0 0 in
+    (rw e (b14 .pre .0), b14 .pre .1, held-left _ (g .held), omega (arith, g .spent, c .before .before .before .portion .ensures .0, b14 .fits .step-limit .fits))
 
 same-length : tie.Need-same-length Inv-loop μ-loop
-same-length c = c .before .before .before .loop .inv .stacks ∙ simp length-set
+same-length c =
+    let b7 = c .before .before .before .before .before .before .before in
+    let b12 = b7 .before .before .before .before .before in
+    b7 .advance .kept .1 .1 .1 .0 ∙ b12 .loop .inv .stacks ∙ simp length-set
+
+same-length-2 : tie.Need-same-length-2 Inv-loop μ-loop
+same-length-2 c =
+    let b7 = c .before .before .before .before .before .before .before in
+    b7 .advance .kept .1 .1 .1 .1 .0 ∙ b7 .before .before .before .before .before .loop .inv .lists
 
 returns : tie.Need-returns Inv-loop μ-loop
 unfolding start
 returns c =
-    let b3 = c .before .before .before in
-    stop-31 (b3 .loop .inv) (passed _ _ _ (b3 .before .before .before .before .before .before .before .pre)) (c .before .before .action .ensures .0) (c .before .if1 .taken) (c .no-action .ensures _ _ _ (b3 .loop .inv .held))
+    let b7 = c .before .before .before .before .before .before .before in
+    let b12 = b7 .before .before .before .before .before in
+    (run-ends (b12 .loop .inv) _ (b7 .before .before .before .before .portion .ensures .0) (rw (c .before .n .given .1) at (b7 .advance .ensures)), b12 .loop .inv .resumes)
 
 count-requires : tie.Need-count-requires Inv-loop μ-loop
-count-requires c κs = let b4 = c .before .before .before .before in countable (b4 .loop .inv) countBits (b4 .before .before .before .before .before .before .before .fits .step-limit .fits)
+count-requires c κs =
+    let b8 = c .before .before .before .before .before .before .before .before in
+    let b12 = b8 .before .before .before .before in
+    let b13 = b12 .before in
+    let b18 = b13 .before .before .before .before .before in
+    let p = pausing (rw (c .before .before .n2 .given .1) at (b8 .advance .ensures)) in
+    countable-so (b13 .loop .inv) _ (b12 .portion .ensures .0) _ _ _ p countBits (b18 .before .before .before .before .before .fits .step-limit .fits)
 
-same-length-3 : tie.Need-same-length-3 Inv-loop μ-loop
-same-length-3 c = c .before .before .before .before .before .loop .inv .stacks ∙ simp length-set
+same-length-4 : tie.Need-same-length-4 Inv-loop μ-loop
+same-length-4 c =
+    let b9 = c .before .before .before .before .before .before .before .before .before in
+    b9 .advance .kept .1 .1 .1 .0 ∙ b9 .before .before .before .before .before .loop .inv .stacks ∙ simp length-set
+
+same-length-5 : tie.Need-same-length-5 Inv-loop μ-loop
+same-length-5 c =
+    let b9 = c .before .before .before .before .before .before .before .before .before in
+    b9 .advance .kept .1 .1 .1 .1 .0 ∙ b9 .before .before .before .before .before .loop .inv .lists
 
 returns-2 : tie.Need-returns-2 Inv-loop μ-loop
 unfolding start
 returns-2 c =
-    let b5 = c .before .before .before .before .before in
-    stop-32 (b5 .loop .inv) (passed _ _ _ (b5 .before .before .before .before .before .before .before .pre)) (c .before .before .before .before .action .ensures .0) (c .before .before .before .if1 .left) (c .before .if2 .taken) (ap (λ (x : List ℕ). 32 ∷ x) (c .count .ensures))
+    let b9 = c .before .before .before .before .before .before .before .before .before in
+    let b13 = b9 .before .before .before .before in
+    let g = b13 .before .loop .inv in
+    let f = b13 .portion .ensures .0 in
+    let p = pausing (rw (c .before .before .before .n2 .given .1) at (b9 .advance .ensures)) in
+    (spent-ends g _ f _ _ _ p (omega (arith, f, c .before .if1 .taken)) (c .count .ensures), g .resumes)
 
-step-requires : tie.Need-step-requires Inv-loop μ-loop
-step-requires c κs =
-    let b6 = c .before .before .before .before .before .before in
-    let a = c .before .before .before .before .before .action .ensures in
-    steppable (b6 .loop .inv .held) (passed _ _ _ (b6 .before .before .before .before .before .before .before .pre)) (a .0) (a .1) (c .before .before .before .before .if1 .left) (c .before .before .if2 .left)
-
-stopped-requires : tie.Need-stopped-requires Inv-loop μ-loop
-stopped-requires c κs =
-    let b7 = c .before .before .before .before .before .before .before in
-    let b14 = b7 .before .before .before .before .before .before .before in
-    countable (b14 .loop .inv) countBits (b14 .before .before .before .before .before .before .before .fits .step-limit .fits)
-
-same-length-5 : tie.Need-same-length-5 Inv-loop μ-loop
-same-length-5 c = let b8 = c .before .before .before .before .before .before .before .before in b8 .step .kept .1 .1 .0 ∙ b8 .before .before .before .before .before .before .before .loop .inv .stacks ∙ simp length-set
-
-same-length-6 : tie.Need-same-length-6 Inv-loop μ-loop
-same-length-6 c = let b8 = c .before .before .before .before .before .before .before .before in b8 .step .kept .1 .1 .1 .0 ∙ b8 .before .before .before .before .before .before .before .loop .inv .lists
-
-returns-3 : tie.Need-returns-3 Inv-loop μ-loop
-unfolding start
-returns-3 c =
-    let b8 = c .before .before .before .before .before .before .before .before in
-    let b15 = b8 .before .before .before .before .before .before .before in
-    stop-step (b15 .loop .inv) (passed _ _ _ (b15 .before .before .before .before .before .before .before .pre)) (b8 .before .before .before .before .before .before .action .ensures .0) (b8 .before .before .before .before .before .if1 .left) (b8 .before .before .before .if2 .left) (rw (c .before .before .n .given .1) at (b8 .step .ensures)) (c .stopped .ensures)
+copy-requires : tie.Need-copy-requires Inv-loop μ-loop
+copy-requires c κs =
+    let b10 = c .before .before .before .before .before .before .before .before .before .before in
+    let b15 = b10 .before .before .before .before .before in
+    let p = pausing (rw (c .before .before .before .before .n2 .given .1) at (b10 .advance .ensures)) in
+    let b20 = b15 .before .before .before .before .before in
+    let q = b20 .before .before .before .before .before in
+    let e = b10 .advance .kept .1 .1 .1 .0 ∙ b15 .loop .inv .stacks ∙ length-set (now (q .args .stack)) 0 0 in
+    (p .held .within, omega (arith, p .held .within, e, q .pre .2, b15 .loop .inv .seconds))
 
 loop-less : tie.Need-loop-less Inv-loop μ-loop
 loop-less c =
-    let b7 = c .before .before .before .before .before .before .before in
-    let b14 = b7 .before .before .before .before .before .before .before in
-    falls (b14 .loop .inv) (passed _ _ _ (b14 .before .before .before .before .before .before .before .pre)) (b7 .before .before .before .before .before .before .action .ensures .0) (b7 .before .before .before .before .before .if1 .left) (b7 .before .before .before .if2 .left) (rw (c .before .n2 .given .1) at (b7 .step .ensures))
+    let b6 = c .before .before .before .before .before .before in
+    let b14 = b6 .before .before .before .before .before .before .before .before in
+    let f = b14 .before .before .before .before .portion .ensures in
+    less-left (f .0) (f .1) (b6 .if1 .left)
 
 loop-again : tie.Need-loop-again Inv-loop μ-loop
-loop-again c =
-    let b7 = c .before .before .before .before .before .before .before in
-    let b14 = b7 .before .before .before .before .before .before .before in
-    goes-on (b14 .loop .inv) (passed _ _ _ (b14 .before .before .before .before .before .before .before .pre)) (b7 .before .before .before .before .before .before .action .ensures .0) (b7 .before .before .before .before .before .if1 .left) (b7 .before .before .before .if2 .left) (rw (c .before .n2 .given .1) at (b7 .step .ensures)) (b7 .step .kept .1 .1 .0) (b7 .step .kept .1 .1 .1 .0)
-
-accepted-requires : tie.Need-accepted-requires Inv-loop μ-loop
-accepted-requires c κs =
-    let b6 = c .before .before .before .before .before .before in
-    let b13 = b6 .before .before .before .before .before .before .before in
-    countable-next (b13 .loop .inv) countBits (b13 .before .before .before .before .before .before .before .fits .step-limit .fits) (b6 .before .before .before .if2 .left)
-
-same-length-7 : tie.Need-same-length-7 Inv-loop μ-loop
-same-length-7 c = let b7 = c .before .before .before .before .before .before .before in b7 .step .kept .1 .1 .0 ∙ b7 .before .before .before .before .before .before .before .loop .inv .stacks ∙ simp length-set
-
-same-length-8 : tie.Need-same-length-8 Inv-loop μ-loop
-same-length-8 c = let b7 = c .before .before .before .before .before .before .before in b7 .step .kept .1 .1 .1 .0 ∙ b7 .before .before .before .before .before .before .before .loop .inv .lists
-
-returns-4 : tie.Need-returns-4 Inv-loop μ-loop
 unfolding start
-returns-4 c =
-    let b7 = c .before .before .before .before .before .before .before in
-    let b14 = b7 .before .before .before .before .before .before .before in
-    accept-step (b14 .loop .inv) (passed _ _ _ (b14 .before .before .before .before .before .before .before .pre)) (b7 .before .before .before .before .before .before .action .ensures .0) (b7 .before .before .before .before .before .if1 .left) (b7 .before .before .before .if2 .left) (rw (c .before .enum-told .given .1) at (b7 .step .ensures)) (c .accepted .ensures)
+loop-again c =
+    let b6 = c .before .before .before .before .before .before in
+    let b14 = b6 .before .before .before .before .before .before .before .before in
+    let b18 = b14 .before .before .before .before in
+    let b19 = b18 .before in
+    let b24 = b19 .before .before .before .before .before in
+    let q = b24 .before .before .before .before .before in
+    let g = b19 .loop .inv in
+    let p = pausing (rw (b6 .before .before .n2 .given .1) at (b14 .advance .ensures)) in
+    let k = c .before .before .before .copy in
+    rw (c .checkpoint-at .ensures)
+    (running-on g _ (b18 .portion .ensures .0) _ _ _ p (now (q .args .stack)) refl (q .pre .0) (length-set (now (q .args .stack)) 0 0) (q .pre .2)
+    (b14 .advance .kept .1 .1 .1 .0 ∙ g .stacks) (k .kept .1 .0 ∙ g .seconds) (k .ensures) (b14 .advance .kept .1 .1 .1 .1 .0 ∙ g .lists))
 
 pub run-spec : {M : Type 1} → statement M
 run-spec =
@@ -125,27 +130,24 @@ run-spec =
     shape-of-requires
     cells-of-requires
     slice-write-stack
+    (λ c κs. search needs)
+    (λ c κs. search needs)
     loop-holds
-    action-requires
-    no-action-requires
+    (λ c κs. search needs)
+    (λ c. c .before .portion .ensures .0)
+    advance-requires
+    (λ c. search needs)
     same-length
-    (λ c. c .before .before .before .loop .inv .lists)
+    same-length-2
+    (λ c. (let b7 = c .before .before .before .before .before .before .before in b7 .before .before .before .before .before .loop .inv .seconds))
     returns
+    (λ c. search needs)
     count-requires
-    same-length-3
-    (λ c. c .before .before .before .before .before .loop .inv .lists)
-    returns-2
-    step-requires
-    (λ c. search needs)
-    stopped-requires
+    same-length-4
     same-length-5
-    same-length-6
-    returns-3
-    (λ c. search needs)
+    (λ c. (let b9 = c .before .before .before .before .before .before .before .before .before in b9 .before .before .before .before .before .loop .inv .seconds))
+    returns-2
+    copy-requires
+    (λ c κs. search needs)
     loop-less
-    loop-again
-    (λ c. search needs)
-    accepted-requires
-    same-length-7
-    same-length-8
-    returns-4)
+    loop-again)

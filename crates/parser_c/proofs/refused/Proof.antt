@@ -8,30 +8,6 @@ use borrow.Author.Needs.{needs}
 use Rattle.parser_c.proofs.refused.Statement.{statement}
 use Rattle.parser_c.proofs.refused.Tie as tie
 
-enum-told : tie.Need-enum-told
-enum-told c = search needs
-
-enum-told-2 : tie.Need-enum-told-2
-enum-told-2 c = search needs
-
-enum-told-3 : tie.Need-enum-told-3
-enum-told-3 c = search needs
-
-enum-told-4 : tie.Need-enum-told-4
-enum-told-4 c = search needs
-
-enum-told-5 : tie.Need-enum-told-5
-enum-told-5 c = search needs
-
-enum-told-6 : tie.Need-enum-told-6
-enum-told-6 c = search needs
-
-enum-told-7 : tie.Need-enum-told-7
-enum-told-7 c = search needs
-
-enum-told-8 : tie.Need-enum-told-8
-enum-told-8 c = search needs
-
 returns : tie.Need-returns
 unfolding covered
 returns c = ap (λ (e : Refusal). padded (refusalNumber e ∷ [])) (sym (c .enum-told .given .1))
@@ -64,18 +40,23 @@ returns-8 : tie.Need-returns-8
 unfolding covered
 returns-8 c = ap (λ (e : Refusal). padded (refusalNumber e ∷ [])) (sym (c .enum-told8 .given .1))
 
+returns-9 : tie.Need-returns-9
+unfolding covered
+returns-9 c = ap (λ (e : Refusal). padded (refusalNumber e ∷ [])) (sym (c .enum-told9 .given .1))
+
 pub refused-spec : {M : Type 1} → statement M
 refused-spec =
     tie.close
     (tie.spec
-    enum-told
-    enum-told-2
-    enum-told-3
-    enum-told-4
-    enum-told-5
-    enum-told-6
-    enum-told-7
-    enum-told-8
+    (λ c. search needs)
+    (λ c. search needs)
+    (λ c. search needs)
+    (λ c. search needs)
+    (λ c. search needs)
+    (λ c. search needs)
+    (λ c. search needs)
+    (λ c. search needs)
+    (λ c. search needs)
     returns
     returns-2
     returns-3
@@ -83,4 +64,5 @@ refused-spec =
     returns-5
     returns-6
     returns-7
-    returns-8)
+    returns-8
+    returns-9)

@@ -24,16 +24,20 @@ unfolding covered
 returns-3 c = for-case refl (c .before .a3 .given .1)
 
 returns-4 : tie.Need-returns-4
-returns-4 c = for-case (c .end2 .ensures) (c .before .before .a4 .given .1)
+unfolding covered
+returns-4 c = for-case refl (c .before .a4 .given .1)
 
 returns-5 : tie.Need-returns-5
-returns-5 c = for-case (c .end3 .ensures) (c .before .before .a5 .given .1)
+returns-5 c = for-case (c .end2 .ensures) (c .before .before .a5 .given .1)
 
 returns-6 : tie.Need-returns-6
-returns-6 c = for-case (c .end4 .ensures) (c .before .before .a6 .given .1)
+returns-6 c = for-case (c .end3 .ensures) (c .before .before .a6 .given .1)
 
 returns-7 : tie.Need-returns-7
-returns-7 c = for-case (c .end5 .ensures) (c .before .before .a7 .given .1)
+returns-7 c = for-case (c .end4 .ensures) (c .before .before .a7 .given .1)
+
+returns-8 : tie.Need-returns-8
+returns-8 c = for-case (c .end5 .ensures) (c .before .before .a8 .given .1)
 
 pub seven-spec : {M : Type 1} → statement M
 seven-spec =
@@ -43,6 +47,7 @@ seven-spec =
     (λ c κs. search needs)
     (λ c. search needs)
     (λ c κs. search needs)
+    (λ c. search needs)
     (λ c. search needs)
     (λ c. search needs)
     (λ c. search needs)
@@ -59,4 +64,5 @@ seven-spec =
     returns-4
     returns-5
     returns-6
-    returns-7)
+    returns-7
+    returns-8)

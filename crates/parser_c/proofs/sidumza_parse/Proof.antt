@@ -4,21 +4,10 @@ use borrow.Author.Needs.{needs}
 use Rattle.parser_c.proofs.sidumza_parse.Statement.{statement}
 use Rattle.parser_c.proofs.sidumza_parse.Tie as tie
 
-parse-requires : tie.Need-parse-requires
-parse-requires c κs = search needs
-
-seven-requires : tie.Need-seven-requires
-seven-requires c κs = search needs
-
-same-length : tie.Need-same-length
-same-length c = search needs
-
-same-length-2 : tie.Need-same-length-2
-same-length-2 c = search needs
-
 returns : tie.Need-returns
-returns c = record { report = c .seven .ensures ∙ ap padded (c .before .before .before .before .before .parse .ensures .answer); stack = c .before .before .before .before .before .parse .ensures .stack; list = c .before .before .before .before .before .parse .ensures .list }
+returns c =
+    let p = c .before .before .before .before .before .before .before .parse .ensures in
+    record { report = c .seven .ensures ∙ ap padded (p .answer); stack = p .stack; list = p .list; second = p .second }
 
 pub sidumza-parse-spec : {M : Type 1} → statement M
-sidumza-parse-spec =
-    tie.close (tie.spec parse-requires seven-requires same-length same-length-2 returns)
+sidumza-parse-spec = tie.close (tie.spec (λ c κs. search needs) (λ c κs. search needs) (λ c. search needs) (λ c. search needs) (λ c. search needs) returns)

@@ -45,6 +45,8 @@ pub unsafe extern "C" fn sidumza_parse(
     stack_len: usize,
     list: *mut u16,
     list_len: usize,
+    second: *mut u16,
+    second_len: usize,
     step_limit: u64,
     out: *mut u64,
 ) {
@@ -53,6 +55,7 @@ pub unsafe extern "C" fn sidumza_parse(
         slice(input, input_len),
         slice_mut(stack, stack_len),
         slice_mut(list, list_len),
+        slice_mut(second, second_len),
         step_limit,
     );
     from_raw_parts_mut(out, 7).copy_from_slice(&outcome.out());

@@ -1,0 +1,3 @@
+pub mod Expected
+pub mod Reaches
+pub mod Phases
