@@ -113,7 +113,7 @@ module _ (t : List ℕ) where
   unfolding terminalOk
   terminal-ok m nz h = rw (lt-ltb 0 m (omega (arith, nz)), lt-ltb m (terminals t) h) refl
 
-  input-more : (line : List ℕ) (m : ℕ) → m ≢ 0 → m < terminals t → inputOk t line ≡ true → inputOk t (line ++ m ∷ []) ≡ true
+  pub input-more : (line : List ℕ) (m : ℕ) → m ≢ 0 → m < terminals t → inputOk t line ≡ true → inputOk t (line ++ m ∷ []) ≡ true
   unfolding inputOk
   input-more line m nz h e = all-true (λ j. terminalOk t (getD (line ++ m ∷ []) j 0)) (length (line ++ m ∷ [])) (λ j k. go j k (decLt j (length line)))
     where
@@ -136,7 +136,7 @@ zeros n = replicate n 0
 long : (n : ℕ) → length (zeros n) ≡ n
 long n = length-replicate n 0
 
-position-kept : (n : ℕ) (m : Machine) → atEnd n m .position ≡ m .position
+pub position-kept : (n : ℕ) (m : Machine) → atEnd n m .position ≡ m .position
 position-kept n m = ap (λ (z : Machine). z .position) (counted n m)
 
 module _ (t line : List ℕ) (a k : ℕ) (ch : Checked t) (ok : inputOk t line ≡ true) (some : 0 < k) (m : ℕ) (h : m < terminals t) where
@@ -251,7 +251,7 @@ cut-some no-steps-left e = omega arith
 cut-some no-place-left e = omega arith
 cut-some broken-off e = omega arith
 
-cut-other : {n : ℕ} → Cut n → n ≢ 31
+pub cut-other : {n : ℕ} → Cut n → n ≢ 31
 cut-other no-steps-left e = omega arith
 cut-other no-place-left e = omega arith
 cut-other broken-off e = omega arith

@@ -90,8 +90,11 @@ module _ {t l st li se : List ℕ} {a : ℕ} {r : Reading} (f : Faithful t l st 
   pub depth-is : depthOf r ≡ length (f .states)
   depth-is = part-2 (f .reported)
 
+  pub listed-is : part (r .report) 3 ≡ length (f .productions)
+  listed-is = part-3 (f .reported)
+
   pub productions-are : productionsOf r ≡ f .productions
-  productions-are = rw (part-3 (f .reported), f .listing) (take-at (f .productions) _ _ refl)
+  productions-are = rw (listed-is, f .listing) (take-at (f .productions) _ _ refl)
 
   pub located-at : f .number ≡ 31 → Located t l a (length se) (f .ahead) (r .report)
   located-at e = located (f .reported) e
