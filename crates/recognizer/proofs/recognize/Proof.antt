@@ -11,12 +11,12 @@ returns c =
     let b6 = c .before .before .before .before .before .before in
     let b11 = b6 .before .before .before .before .before in
     let b19 = b11 .before .before .before .before .before .before .before .before in
-    reads _ _ _ _ _ _ _ _ _ (b19 .generate .ensures) (b11 .enum-told .given .1) (b6 .parse .ensures)
+    reads _ _ _ _ (b19 .generate .ensures) (b11 .enum-told .given .1) _ _ _ _ _ (b6 .parse .ensures)
 
 returns-2 : tie.Need-returns-2
 returns-2 c =
     let b7 = c .before .before .before .before .before .before .before in
-    refuses _ _ _ _ _ _ _ _ _ (b7 .generate .ensures) (λ h. (let k = rw h at (c .match .keys2) in miss (1 ∷ 2 ∷ 3 ∷ 4 ∷ 5 ∷ 6 ∷ 7 ∷ []) 0 tt k))
+    refuses _ _ _ _ (b7 .generate .ensures) (λ h. (let k = rw h at (c .match .keys2) in miss (1 ∷ 2 ∷ 3 ∷ 4 ∷ 5 ∷ 6 ∷ 7 ∷ []) 0 tt k)) _ _ _ _ _
 
 pub recognize-spec : {M : Type 1} → statement M
 recognize-spec =
