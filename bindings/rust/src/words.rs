@@ -4,7 +4,7 @@ use crate::{Answer, Refusal};
 use std::fmt;
 
 impl Refusal {
-    /// The number of the refusal, 21 to 27, 44 or 45.
+    /// The number of the refusal, 21 to 27, 44, 45 or 50.
     pub fn number(self) -> u32 {
         match self {
             Refusal::TableShort => 21,
@@ -16,6 +16,7 @@ impl Refusal {
             Refusal::NoStack => 27,
             Refusal::BadEntered => 44,
             Refusal::SecondShort => 45,
+            Refusal::BadClosed => 50,
         }
     }
 }
@@ -32,6 +33,7 @@ impl fmt::Display for Refusal {
             Refusal::NoStack => "no stack area",
             Refusal::BadEntered => "bad entering symbol in the table",
             Refusal::SecondShort => "second stack area too short",
+            Refusal::BadClosed => "bad word of closed terminals",
         };
         write!(f, "refused {}: {words}", self.number())
     }
@@ -40,7 +42,7 @@ impl fmt::Display for Refusal {
 impl std::error::Error for Refusal {}
 
 impl Answer {
-    /// The number of the answer: 0, 21 to 27, 31 to 35 or 44 to 46.
+    /// The number of the answer: 0, 21 to 27, 31 to 35, 44 to 46 or 50.
     pub fn number(self) -> u32 {
         match self {
             Answer::Accepted { .. } => 0,
