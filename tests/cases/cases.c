@@ -23,6 +23,8 @@
        stack LENGTH, list LENGTH, second LENGTH, limit STEPS
                                    without it the second area is as long as
                                    the stack
+       closed WORD                 the choir's call with this word; without it
+                                   the publisher's
        answer NUMBERS              number, steps, depth, listed, position,
                                    expected word, expected count; rest 0
        stacked NUMBERS, listed NUMBERS   the first places afterwards; places
@@ -40,7 +42,7 @@
 
 enum {
     TABLE = 32260, WORK = 8192, WORK2 = 16384,
-    LONGER = 100, FENCE = 16, MANY = 70000, NUMBERS = 47
+    LONGER = 100, FENCE = 16, MANY = 70000, NUMBERS = 51
 };
 
 static uint64_t values[MANY];
@@ -53,9 +55,9 @@ static uint16_t given[MANY];
 static uint8_t input[MANY];
 static uint16_t stack[MANY], list[MANY], second[MANY];
 static size_t card_len, given_len, input_len, stack_len, list_len, second_len, areas[3];
-static uint64_t limit;
+static uint64_t limit, closed;
 static uint64_t out[7];
-static int answered, second_given;
+static int answered, second_given, closed_given;
 static char name[300], kind;
 static unsigned long makes, parses, failures, line_number;
 static unsigned long seen[NUMBERS];
@@ -119,7 +121,7 @@ static void numbers16(uint16_t *into, size_t *length) {
 static void begin(char what, const char *title) {
     kind = what;
     snprintf(name, sizeof name, "%.299s", title);
-    answered = second_given = 0;
+    answered = second_given = closed_given = 0;
     areas[0] = TABLE, areas[1] = WORK, areas[2] = WORK2;
     card_len = input_len = 0;
     stack_len = list_len = 100;
@@ -217,7 +219,11 @@ static void run_parse(void) {
         out[i] = 99;
     if (!second_given)
         second_len = stack_len;
-    sidumza_parse(given, given_len, input, input_len, stack, stack_len, list, list_len, second, second_len, limit, out);
+    if (closed_given)
+        sidumza_parse_restricted(given, given_len, input, input_len, closed, stack, stack_len, list, list_len, second,
+                                 second_len, limit, out);
+    else
+        sidumza_parse(given, given_len, input, input_len, stack, stack_len, list, list_len, second, second_len, limit, out);
     parses++;
     if (out[0] < NUMBERS)
         seen[out[0]]++;
@@ -314,6 +320,9 @@ static void read_line(const char *line) {
         second_given = 1;
     } else if (kind == 'p' && starts(line, "limit", &rest) && count == 1) {
         limit = values[0];
+    } else if (kind == 'p' && starts(line, "closed", &rest) && count == 1) {
+        closed = values[0];
+        closed_given = 1;
     } else if (kind == 'p' && answered && starts(line, "stacked", &rest)) {
         compare_area("stack", stack);
     } else if (kind == 'p' && answered && starts(line, "listed", &rest)) {
@@ -338,7 +347,8 @@ int main(int argc, char **argv) {
     }
     fclose(file);
     for (unsigned long number = 0; number < NUMBERS; number++) {
-        int wanted = number < 14 || (number > 20 && number < 28) || (number > 30 && number < 36) || number > 43;
+        int wanted = number < 14 || (number > 20 && number < 28) || (number > 30 && number < 36) ||
+                     (number > 43 && number < 47) || number == 50;
         if (wanted && seen[number] == 0) {
             printf("answer %lu was not seen\n", number);
             failures++;

@@ -14,6 +14,7 @@
 mod abi;
 mod cards;
 mod check;
+mod choirs;
 mod entered;
 #[rustfmt::skip]
 #[path = "../../reader/src/guarded.rs"]
@@ -66,15 +67,27 @@ fn report(counts: &Counts, seen: &readings::Counts) {
          second area {}; second area short {}",
         seen.moved, seen.by_spans, seen.unknown, seen.saved, seen.second_short
     );
+    let closed = &seen.closed;
+    println!(
+        "closed terminals: refused {}, accepted {}, wrong at one {} (behind a sentence {}), before \
+         one {}, missing from the expected set {}",
+        closed.refused,
+        closed.accepted,
+        closed.at,
+        closed.behind_sentence,
+        closed.before,
+        closed.narrowed
+    );
 }
 
 fn compare(seed: u64, cards: u64) -> bool {
     println!("seed {seed}, {cards} cards; generator: {}, parser: {}", abi::GENERATOR, abi::PARSER);
     let mut random = Random::new(seed);
     let mut checker = Checker::new(&mut random);
+    let calls = abi::Calls { publisher: &abi::parse, choir: &abi::parse_restricted };
     for _ in 0..cards {
         let numbers = cards::card(&mut random);
-        if let Err(what) = checker.card(&mut random, &numbers, &abi::generate, &abi::parse) {
+        if let Err(what) = checker.card(&mut random, &numbers, &abi::generate, calls) {
             println!("card {}: {what}", show(&numbers));
             println!("FAILED at card {} of seed {seed}", checker.counts.cards);
             return false;
@@ -113,7 +126,7 @@ fn found(
     cards: u64,
     against: Against,
     generator: &abi::Generator,
-    parser: &abi::Parser,
+    calls: abi::Calls,
 ) -> Option<(u64, String)> {
     let mut random = Random::new(seed);
     let mut checker = Checker::new(&mut random);
@@ -125,7 +138,7 @@ fn found(
     };
     for card in 1..=cards {
         let numbers = cards::card(&mut random);
-        if let Err(what) = checker.card(&mut random, &numbers, generator, parser) {
+        if let Err(what) = checker.card(&mut random, &numbers, generator, calls) {
             return Some((card, what));
         }
     }
@@ -143,6 +156,21 @@ fn parser(
     reference::parser::parse(t, i, s, l, v, limit).out()
 }
 
+fn choir(
+    t: &[u16],
+    i: &[u8],
+    closed: u64,
+    s: &mut [u16],
+    l: &mut [u16],
+    v: &mut [u16],
+    limit: u64,
+) -> [u64; 7] {
+    reference::parser::parse_restricted(t, i, closed, s, l, v, limit).out()
+}
+
+/// Right calls.
+const RIGHT: abi::Calls = abi::Calls { publisher: &parser, choir: &choir };
+
 fn generator(c: &[u16], t: &mut [u16], w: &mut [u64], v: &mut [u32]) -> [u64; 5] {
     use reference::answer::{answer, generate, Method};
     generate(c, t, w, v, |card| answer(card, Method::Spreading).expect("an answer"))
@@ -159,7 +187,7 @@ fn reads_behind(seed: u64, cards: u64) -> bool {
         }
         out
     };
-    found(seed, cards, Against::All, &reads, &parser).is_none()
+    found(seed, cards, Against::All, &reads, RIGHT).is_none()
 }
 
 /// The signal for memory that may not be touched.
@@ -175,12 +203,17 @@ fn reads_behind_dies() -> bool {
 /// What the wrong ones are made from is right: the first card where it is not.
 fn wrong_base(seed: u64, cards: u64) -> Option<String> {
     let base = wrong::by_relations("the short way without a fault", relations::Fault::None);
-    let bases: [(_, &abi::Generator, &abi::Parser); 2] = [
-        (base.name, &base.generator, &parser),
-        ("fresh readings without a fault", &generator, &offers::base()),
+    let bases: [(_, &abi::Generator, abi::Calls); 3] = [
+        (base.name, &base.generator, RIGHT),
+        (
+            "fresh readings without a fault",
+            &generator,
+            abi::Calls { publisher: &offers::base(), ..RIGHT },
+        ),
+        ("a choir's without a fault", &generator, abi::Calls { choir: &choirs::base(), ..RIGHT }),
     ];
-    for (name, generator, parser) in bases {
-        if let Some((card, what)) = found(seed, cards, Against::All, generator, parser) {
+    for (name, generator, calls) in bases {
+        if let Some((card, what)) = found(seed, cards, Against::All, generator, calls) {
             return Some(format!("{name} at card {card}: {what}"));
         }
     }
@@ -213,16 +246,26 @@ fn self_check(seed: u64, cards: u64) -> bool {
         return false;
     }
     for wrong in wrong::generators() {
-        tell(wrong.name, found(seed, cards, Against::All, &wrong.generator, &parser));
+        tell(wrong.name, found(seed, cards, Against::All, &wrong.generator, RIGHT));
     }
     for wrong in wrong::tables() {
-        tell(wrong.name, found(seed, cards, Against::WrongTables, &wrong.generator, &parser));
+        tell(wrong.name, found(seed, cards, Against::WrongTables, &wrong.generator, RIGHT));
     }
     for (name, wrong) in parsers::parsers().into_iter().chain(offers::limits()) {
-        tell(name, found(seed, cards, Against::All, &generator, &wrong));
+        let calls = abi::Calls { publisher: &wrong, ..RIGHT };
+        tell(name, found(seed, cards, Against::All, &generator, calls));
     }
     for (name, wrong) in offers::sets() {
-        tell(name, found(seed, cards, Against::Grammar, &generator, &wrong));
+        let calls = abi::Calls { publisher: &wrong, ..RIGHT };
+        tell(name, found(seed, cards, Against::Grammar, &generator, calls));
+    }
+    for (name, wrong) in choirs::calls() {
+        let calls = abi::Calls { choir: &wrong, ..RIGHT };
+        tell(name, found(seed, cards, Against::All, &generator, calls));
+    }
+    for (name, wrong) in choirs::sets() {
+        let calls = abi::Calls { choir: &wrong, ..RIGHT };
+        tell(name, found(seed, cards, Against::Grammar, &generator, calls));
     }
     let died = reads_behind_dies().then(|| (0, "ended by a signal".to_string()));
     tell("a symbol behind L looked at", died);
