@@ -7,7 +7,7 @@ use native.Mathlib.Omega.{arith}
 use Rattle.sets.specs.Lists.{peek}
 use Rattle.tables.specs.Layout.{cellOf, reduction, accept}
 use Rattle.machine.specs.Stops.{Stops, no-steps, broken-here, stack-full}
-use Rattle.machine.specs.Exploration.{Comes, unlisted, Explored, shifts, stops, reads, Cut}
+use Rattle.machine.specs.Exploration.{Comes, unlisted, Explored, stops, reads, Cut}
 use Rattle.machine.proofs.Explorations.{path-listed, comes-listed}
 use Rattle.machine.proofs.LrMachineLaws.{Config, conf, depth, Step, Path, Broken, Ends, wrong, broken}
 use Rattle.exploration.specs.Phases.{CutFor}

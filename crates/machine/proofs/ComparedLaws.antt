@@ -3,7 +3,7 @@ use Prim.Native.Nat.{ℕ, zero, suc, _+_, _-_, _<_, _≤_, max}
 use mathlib.Core.Path.{_≡_, refl, sym, ap, _∙_}
 use mathlib.Core.Logic.{_≢_, _↔_, _⊎_, inl, inr, ⊎-elim}
 use mathlib.Core.Bool.{Bool, true, false, false≢true}
-use mathlib.Core.List.{List, [], _∷_, _++_}
+use mathlib.Core.List.{List, [], _∷_}
 use lib.ListN.{length, getD, take, length-append}
 use lib.Seq.{length-take-le, getD-take}
 use native.Mathlib.Omega.{arith}
@@ -22,7 +22,7 @@ use Rattle.machine.specs.ComputedRun.{Machine, run, start, reading, rest
 use Rattle.machine.proofs.Checked.{Passed, taken, taken-passes}
 use Rattle.machine.proofs.MaskedLaws.{masked-taken}
 use Rattle.machine.proofs.LrMachineLaws.{Config, conf, listed, Path, own-steps}
-use Rattle.machine.proofs.Shifts.{Sound, start-sound, path-sound}
+use Rattle.machine.proofs.Shifts.{behind-line, Sound, start-sound, path-sound}
 use Rattle.machine.proofs.Settles.{unread}
 use Rattle.machine.proofs.Areas.{Held, held, Leads, held-start, follows}
 use Rattle.machine.proofs.Explorations.{run-on}
@@ -59,12 +59,6 @@ module _ (closed : ℕ) where
       go : Dec (j < i) → i ≤ j
       go (yes b) = absurd (u j (rw (length-take-le i l h) b) (rw (getD-take i l j 0 b) c))
       go (no b) = omega (arith, b)
-
--- the terminal behind a line
-behind : (line x : List ℕ) → getD (line ++ x) (length line) 0 ≡ peek x
-behind [] [] = refl
-behind [] (a ∷ x) = refl
-behind (b ∷ line) x = behind line x
 
 -- ---- what both report
 
@@ -215,7 +209,7 @@ module _ {t : List ℕ} {closed : ℕ} {l st li se : List ℕ} {a : ℕ} (e : re
   counted = sym (length-append (read .line) (f .ahead)) ∙ ap length (read .whole)
 
   next-is : getD l at 0 ≡ peek (f .ahead)
-  next-is = ap (λ (y : List ℕ). getD y at 0) (sym (read .whole)) ∙ behind (read .line) (f .ahead)
+  next-is = ap (λ (y : List ℕ). getD y at 0) (sym (read .whole)) ∙ behind-line (read .line) (f .ahead)
 
   module _ (place : ℕ) (first : FirstClosed closed l place) where
     not-past : at ≤ place

@@ -2,7 +2,7 @@
 use Prim.Native.Nat.{ℕ, zero, suc, _+_, _-_, _<_, _≤_, max}
 use mathlib.Core.Path.{_≡_, refl, sym, ap, _∙_}
 use mathlib.Core.Logic.{_≢_, _↔_}
-use mathlib.Core.Bool.{Bool, true, false, cond, _&&_}
+use mathlib.Core.Bool.{Bool, true, false, _&&_}
 use mathlib.Core.List.{List, [], _∷_, _++_}
 use lib.ListN.{length, take, getD, replicate, length-append, length-replicate, List·getD-append}
 use lib.Seq.{length-take-le, getD-take, getD-append-seam}
@@ -20,6 +20,7 @@ pub use Rattle.machine.specs.Exploration.{Comes, unlisted, Explored, shi
 use Rattle.machine.specs.ComputedRun.{Machine, Next, ended, moved, accepted, topOf, actionOf, shifted, reducedTo, reduced, movedBy, Outcome, after, run, start, withNext, fresh, freshNumber, decided, expectedWord, wordOf}
 use Rattle.machine.proofs.Checked.{Checked, Passed}
 use Rattle.machine.proofs.LrMachineLaws.{Config, conf, depth, listed, Step, Path}
+use Rattle.machine.proofs.RunLaws.{either}
 use Rattle.machine.proofs.Settles.{unread, Settled, settles}
 use Rattle.machine.proofs.Areas.{Held, held, Leads, ends-at, atEnd, counted, held-start, follows}
 use Rattle.machine.proofs.Offers.{same-members, word-members}
@@ -65,33 +66,26 @@ OnFrom n (ended i m) = n ≤ m .position
 OnFrom n (moved m) = n ≤ m .position
 OnFrom n (accepted m) = n ≤ m .position
 
-either : (n : ℕ) (b : Bool) (x y : Next) → OnFrom n x → OnFrom n y → OnFrom n (cond b x y)
-either n true x y f g = f
-either n false x y f g = g
-
 step-on : (t : List ℕ) (a : ℕ) (m : Machine) → OnFrom (m .position) (movedBy t a m)
 unfolding movedBy shifted reduced reducedTo
 step-on t a m =
+    let P : Next → Type 0 = OnFrom (m .position) in
     let h : m .position ≤ m .position = omega arith in
     let k : m .position ≤ m .position + 1 = omega arith in
-    either (m .position) (ltb a 1024) _ _ (either (m .position) (ltb (m .depth) (length (m .stack))) _ _ k h)
-    (either (m .position) (eqb a accept) _ _ h
-    (either (m .position) (ltb (m .listed) (length (m .list))) _ _
-    (either (m .position) (ltb (lengthOf t (a - 1024)) (m .depth)) _ _
-    (either (m .position) (eqb (cellOf t (topOf (m .stack) (m .depth - lengthOf t (a - 1024))) (leftOf t (a - 1024))) 0) _ _ h
-    (either (m .position) (ltb (m .depth - lengthOf t (a - 1024)) (length (m .stack))) _ _ h h))
-    h)
-    h))
+    either P (ltb a 1024) (λ _. either P (ltb (m .depth) (length (m .stack))) (λ _. k) (λ _. h))
+    (λ _. either P (eqb a accept) (λ _. h)
+    (λ _. either P (ltb (m .listed) (length (m .list)))
+    (λ _. either P (ltb (lengthOf t (a - 1024)) (m .depth))
+    (λ _. either P (eqb (cellOf t (topOf (m .stack) (m .depth - lengthOf t (a - 1024))) (leftOf t (a - 1024))) 0) (λ _. h)
+    (λ _. either P (ltb (m .depth - lengthOf t (a - 1024)) (length (m .stack))) (λ _. h) (λ _. h)))
+    (λ _. h))
+    (λ _. h)))
 
 module _ (t l : List ℕ) where
-  choose : (n : ℕ) (b : Bool) (x y : Outcome) → n ≤ x .final .position → n ≤ y .final .position → n ≤ cond b x y .final .position
-  choose n true x y f g = f
-  choose n false x y f g = g
-
   pub run-on : (k : ℕ) (m : Machine) → m .position ≤ run t l k m .final .position
   unfolding run after
-  run-on zero m = choose (m .position) (eqb (actionOf t l m) 0) _ _ (omega arith) (omega arith)
-  run-on (suc k) m = choose (m .position) (eqb (actionOf t l m) 0) _ _ (omega arith) (go (movedBy t (actionOf t l m) m) (step-on t (actionOf t l m) m) (λ m′. run-on k m′))
+  run-on zero m = either (λ (o : Outcome). m .position ≤ o .final .position) (eqb (actionOf t l m) 0) (λ _. omega arith) (λ _. omega arith)
+  run-on (suc k) m = either (λ (o : Outcome). m .position ≤ o .final .position) (eqb (actionOf t l m) 0) (λ _. omega arith) (λ _. go (movedBy t (actionOf t l m) m) (step-on t (actionOf t l m) m) (λ m′. run-on k m′))
     where
       go : (x : Next) → OnFrom (m .position) x → ((m′ : Machine) → m′ .position ≤ run t l k m′ .final .position) → m .position ≤ after (run t l k) x .final .position
       go (ended i m′) h ih = h

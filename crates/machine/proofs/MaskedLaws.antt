@@ -13,7 +13,7 @@ use Rattle.sets.proofs.TestLaws.{all-at, all-true, passes, neither}
 use Rattle.tables.specs.Layout.{states, terminals, nonterminals, productions, width, leftOf, lengthOf, enteredOf, cellOf, sizeOf}
 use Rattle.tables.proofs.LayoutLaws.{built-sizes, built-left, built-length, built-entered, built-cell, built-long}
 use Rattle.machine.specs.Checks.{productionOk, terminalCellOk, cellOk, rowOk, productionsOk, cellsOk, terminalOk, inputOk, refusalOf, closedOk, restrictedRefusal}
-use Rattle.machine.specs.ComputedRun.{masked}
+use Rattle.machine.specs.ComputedRun.{maskedCell, masked}
 use Rattle.machine.proofs.Checked.{Checked, Passed, Taken, taken, taken-passes}
 use Rattle.machine.proofs.Entries.{Entries, entries, entries-pass}
 use Rattle.machine.proofs.RefusalLaws.{closed-ok}
@@ -33,12 +33,9 @@ module _ (t : List ℕ) (closed : ℕ) (e : closedOk t closed ≡ true) where
 -- ---- the parts of the table
 
 module _ (t : List ℕ) (closed : ℕ) where
-  abbrev cell : ℕ → ℕ → ℕ
-  cell q x = cond (bit closed x) 0 (cellOf t q x)
-
   sizes-are : (states (masked closed t) ≡ states t) × (terminals (masked closed t) ≡ terminals t) × (nonterminals (masked closed t) ≡ nonterminals t) × (productions (masked closed t) ≡ productions t)
   unfolding masked
-  sizes-are = built-sizes (states t) (terminals t) (nonterminals t) (productions t) (leftOf t) (lengthOf t) (enteredOf t) cell
+  sizes-are = built-sizes (states t) (terminals t) (nonterminals t) (productions t) (leftOf t) (lengthOf t) (enteredOf t) (maskedCell closed t)
 
   pub masked-states : states (masked closed t) ≡ states t
   masked-states = sizes-are .0
@@ -58,23 +55,23 @@ module _ (t : List ℕ) (closed : ℕ) where
 
   pub masked-left : (r : ℕ) → r < productions t → leftOf (masked closed t) r ≡ leftOf t r
   unfolding masked
-  masked-left = built-left (states t) (terminals t) (nonterminals t) (productions t) (leftOf t) (lengthOf t) (enteredOf t) cell
+  masked-left = built-left (states t) (terminals t) (nonterminals t) (productions t) (leftOf t) (lengthOf t) (enteredOf t) (maskedCell closed t)
 
   pub masked-length : (r : ℕ) → r < productions t → lengthOf (masked closed t) r ≡ lengthOf t r
   unfolding masked
-  masked-length = built-length (states t) (terminals t) (nonterminals t) (productions t) (leftOf t) (lengthOf t) (enteredOf t) cell
+  masked-length = built-length (states t) (terminals t) (nonterminals t) (productions t) (leftOf t) (lengthOf t) (enteredOf t) (maskedCell closed t)
 
   pub masked-entered : (q : ℕ) → q < states t → enteredOf (masked closed t) q ≡ enteredOf t q
   unfolding masked
-  masked-entered = built-entered (states t) (terminals t) (nonterminals t) (productions t) (leftOf t) (lengthOf t) (enteredOf t) cell
+  masked-entered = built-entered (states t) (terminals t) (nonterminals t) (productions t) (leftOf t) (lengthOf t) (enteredOf t) (maskedCell closed t)
 
-  masked-cell : (q x : ℕ) → q < states t → x < width t → cellOf (masked closed t) q x ≡ cell q x
+  masked-cell : (q x : ℕ) → q < states t → x < width t → cellOf (masked closed t) q x ≡ maskedCell closed t q x
   unfolding masked width
-  masked-cell = built-cell (states t) (terminals t) (nonterminals t) (productions t) (leftOf t) (lengthOf t) (enteredOf t) cell
+  masked-cell = built-cell (states t) (terminals t) (nonterminals t) (productions t) (leftOf t) (lengthOf t) (enteredOf t) (maskedCell closed t)
 
   masked-long : length (masked closed t) ≡ sizeOf (masked closed t)
   unfolding masked
-  masked-long = built-long (states t) (terminals t) (nonterminals t) (productions t) (leftOf t) (lengthOf t) (enteredOf t) cell
+  masked-long = built-long (states t) (terminals t) (nonterminals t) (productions t) (leftOf t) (lengthOf t) (enteredOf t) (maskedCell closed t)
 
   pub masked-open : (q x : ℕ) → q < states t → x < width t → (Has closed x → ⊥) → cellOf (masked closed t) q x ≡ cellOf t q x
   masked-open q x h k o = masked-cell q x h k ∙ rw (no-bit (bit closed x) o) refl

@@ -16,6 +16,11 @@ use Rattle.tables.specs.Layout.{cellOf, lengthOf, leftOf}
 use Rattle.machine.specs.ComputedRun.{Machine, Next, ended, moved, accepted, popped, topOf, actionOf, shifted, reducedTo, reduced, movedBy, Outcome, after, run}
 use Rattle.machine.specs.RunTo.{actionTo, runTo}
 
+-- what holds in both cases of a test
+pub either : {A : Type 0} (P : A → Type 0) (b : Bool) {x y : A} → (b ≡ true → P x) → (b ≡ false → P y) → P (cond b x y)
+either P true f g = f refl
+either P false f g = g refl
+
 pub popped-step : (s : List ℕ) (d k : ℕ) → 0 < k → popped (set s (d - 1) 0) (d - 1) (k - 1) ≡ popped s d k
 unfolding popped
 popped-step s d zero h = absurd (not-suc-le-zero h)

@@ -5,7 +5,7 @@ use mathlib.Core.Logic.{_⊎_, inl, inr, ⊎-elim}
 use mathlib.Core.Bool.{Bool, true, false, cond}
 use mathlib.Core.List.{List, [], _++_, append-nil}
 use lib.ListN.{length, getD, set, length-append, length-set, List·getD-append, List·getD-eq-default}
-use lib.Seq.{getD-append-add, getD-set-same, take-at}
+use lib.Seq.{getD-set-same, take-at}
 use lib.Dec.{ltb, eqb}
 use borrow.Author.Tests.{ltb-true, ltb-false, eqb-false}
 use native.Mathlib.Omega.{arith}
@@ -19,8 +19,8 @@ use Rattle.machine.specs.ComputedRun.{Machine, Next, ended, moved, accep
 use Rattle.machine.specs.RunTo.{actionTo, runTo}
 use Rattle.machine.proofs.Checked.{Passed, below-width, shift-passed, reduce-passed, left-passed, goto-passed, next-passed}
 use Rattle.machine.proofs.MaskedLaws.{open-end, masked-length, masked-left, masked-open, masked-closed, masked-goto}
-use Rattle.machine.proofs.Shifts.{peek-drop}
-use Rattle.machine.proofs.RunLaws.{popped-length, popped-at, states-more, Acts, at-bar, no-bar, acts, both-runs}
+use Rattle.machine.proofs.Shifts.{behind-line}
+use Rattle.machine.proofs.RunLaws.{either, popped-length, popped-at, states-more, Acts, at-bar, no-bar, acts, both-runs}
 use Rattle.machine.proofs.Explorations.{run-on, input-front}
 use Rattle.machine.proofs.ReadsLaws.{ends-within}
 
@@ -59,10 +59,6 @@ abbrev Each : (Machine → Type 0) → Next → Type 0
 Each K (ended n m) = K m
 Each K (moved m) = K m
 Each K (accepted m) = K m
-
-either : (P : Next → Type 0) (b : Bool) {x y : Next} → (b ≡ true → P x) → (b ≡ false → P y) → P (cond b x y)
-either P true f g = f refl
-either P false f g = g refl
 
 alike : {A : Type 0} (b : Bool) {x y x′ y′ : A} → (b ≡ true → x ≡ x′) → (b ≡ false → y ≡ y′) → cond b x y ≡ cond b x′ y′
 alike true f g = f refl
@@ -181,8 +177,8 @@ module _ {t l line : List ℕ} {closed : ℕ} {barred : Bool} {n : ℕ} (pa : Pa
   module _ {m : Machine} (h : Kept t line m) where
     at-end : length line ≤ m .position → getD l (m .position) 0 ≡ peek (f .behind)
     at-end k =
-        let e : m .position ≡ length line + 0 = omega (arith, h .place) in
-        rw (e, ← f .whole) (getD-append-add line (f .behind) 0 0 ∙ sym (peek-drop 0 (f .behind)))
+        let e : m .position ≡ length line = omega (arith, h .place) in
+        rw (e, ← f .whole) (behind-line line (f .behind))
 
     -- where no closed terminal stands behind the line, the next terminal is that of the input, and open
     next-same : (barred ≡ true → m .position < length line) → (getD line (m .position) 0 ≡ getD l (m .position) 0) × Open closed (getD line (m .position) 0)

@@ -2,7 +2,7 @@
 use Prim.Native.Nat.{ℕ, zero, suc, _+_, _-_, _<_, _≤_}
 use mathlib.Core.Path.{_≡_, refl, sym, ap, _∙_}
 use mathlib.Core.Logic.{_≢_, ⊎-elim}
-use mathlib.Core.List.{List, [], _∷_}
+use mathlib.Core.List.{List, [], _∷_, _++_}
 use lib.ListN.{length, drop, getD, drop-of-length-le}
 use native.Mathlib.Omega.{arith}
 use Rattle.sets.specs.Lists.{peek, rest}
@@ -31,6 +31,12 @@ peek-drop zero [] = refl
 peek-drop zero (a ∷ l) = refl
 peek-drop (suc i) [] = refl
 peek-drop (suc i) (a ∷ l) = peek-drop i l
+
+-- the terminal behind a line
+pub behind-line : (line x : List ℕ) → getD (line ++ x) (length line) 0 ≡ peek x
+behind-line [] [] = refl
+behind-line [] (a ∷ x) = refl
+behind-line (b ∷ line) x = behind-line line x
 
 pub rest-drop : (i : ℕ) (l : List ℕ) → rest (drop i l) ≡ drop (i + 1) l
 rest-drop zero [] = refl

@@ -1,7 +1,7 @@
 -- Card 10's sentences on how a choir's reading ends beside a publisher's, for every table: proved in proofs/ComparedLaws.antt.
 use Prim.Native.Nat.{ℕ, _-_, _<_}
 use mathlib.Core.Path.{_≡_}
-use mathlib.Core.Logic.{_≢_, _↔_, _⊎_}
+use mathlib.Core.Logic.{_↔_, _⊎_}
 use mathlib.Core.List.{List}
 use lib.ListN.{take, getD}
 use Rattle.sets.specs.Bit.{bit, Has, count}

@@ -156,10 +156,14 @@ reading t l st li se a =
 
 -- ---- the restricted reading
 
+-- a cell, or 0 in the column of a closed terminal
+abbrev pub maskedCell : ℕ → List ℕ → ℕ → ℕ → ℕ
+maskedCell closed t q x = cond (bit closed x) 0 (cellOf t q x)
+
 -- a table with 0 in each column of a closed terminal
 unfoldable pub masked : ℕ → List ℕ → List ℕ
 masked closed t =
-    build (states t) (terminals t) (nonterminals t) (productions t) (leftOf t) (lengthOf t) (enteredOf t) (λ q x. cond (bit closed x) 0 (cellOf t q x))
+    build (states t) (terminals t) (nonterminals t) (productions t) (leftOf t) (lengthOf t) (enteredOf t) (maskedCell closed t)
 
 -- the choir's reading is the publisher's of that table; `restricted-exactly` of proofs/RestrictedLaws.antt proves it equal to the definition `RestrictedReads`
 unfoldable pub restrictedReading : List ℕ → ℕ → List ℕ → List ℕ → List ℕ → List ℕ → ℕ → Reading

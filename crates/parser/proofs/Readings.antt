@@ -1,7 +1,7 @@
--- A line read up to its end or a bar is the publisher's reading, or the restricted one.
+-- What is read before the first closed terminal, up to a bar there, is the restricted reading of the whole input.
 use mathlib.Core.Path.{_≡_, refl, sym, ap, _∙_}
 use mathlib.Core.Logic.{_≢_}
-use mathlib.Core.Bool.{true, false}
+use mathlib.Core.Bool.{true}
 use mathlib.Core.List.{List}
 use Prim.Native.Nat.{ℕ, _^_, _<_, _≤_}
 use native.Mathlib.Omega.{arith}
@@ -14,14 +14,13 @@ use Rattle.machine.specs.Report.{Reading, numbersOf}
 use Rattle.machine.specs.Restricted.{OpenLine}
 use Rattle.machine.specs.ComputedRun.{Outcome, run, start, reportOf, readingOf, reading, masked, restrictedReading}
 use Rattle.machine.specs.Widths.{ReadsIn}
-use Rattle.machine.proofs.Checked.{Taken, taken, next-passed}
+use Rattle.machine.proofs.Checked.{Taken, next-passed}
 use Rattle.machine.proofs.Shifts.{peek-drop}
 use Rattle.machine.proofs.Explorations.{input-front}
-use Rattle.machine.proofs.RunLaws.{run-to-whole}
 use Rattle.machine.proofs.RunTo.{Front, run-to-masked, run-to-within}
-use Rattle.machine.proofs.ReadsLaws.{known-is, unknown-is, ends-within, unrefused, refused-is, reads-some}
-use Rattle.machine.proofs.MaskedLaws.{closed-zero, masked-taken}
-use Rattle.machine.proofs.RestrictedLaws.{restricted-refused, open-known, open-unknown, none-offer, none-cut}
+use Rattle.machine.proofs.ReadsLaws.{reads-some}
+use Rattle.machine.proofs.MaskedLaws.{masked-taken}
+use Rattle.machine.proofs.RestrictedLaws.{restricted-refused, open-known, open-unknown}
 use Rattle.machine.proofs.Widths.{count-in, in-width}
 use Rattle.table_checks.specs.Verdict.{refusalNumber}
 use Rattle.table_checks.specs.declared.Refusal.{Refusal}
@@ -42,52 +41,6 @@ not-zero TerminalWrong z = omega arith
 not-zero NoStack z = omega arith
 not-zero SecondShort z = omega arith
 not-zero ClosedWrong z = omega arith
-
--- ---- the publisher's reading
-
-pub ready : (t l : List ℕ) (n k : ℕ) → refusalOf t l n k ≡ 0 → Ready t l 0 n k
-ready t l n k e = let z = taken t l n k e in record { passed = z .passed; short = z .short; second = z .second; word = closed-zero t }
-
-module _ (t l st li se : List ℕ) (a : ℕ) where
-  module _ (e : refusalOf t l (length st) (length se) ≡ 0) where
-    tk : Taken t l (length st) (length se)
-    tk = taken t l (length st) (length se) e
-
-    places : 0 < length se
-    places = omega (arith, tk .passed .places, tk .second)
-
-    report-is : {r : Answer} {o : Outcome} → o .final .position ≤ length l → Answers t 0 l a (length se) o r → numbers r ≡ numbersOf (reportOf t l a (length se) o)
-    unfolding reportOf
-    report-is {o = o} h (ends ne er) = rw (ne-eqb (o .number) 31 ne) er
-    report-is {o = o} h (stops eo (known word w er)) =
-        rw (eq-eqb (o .number) 31 eo) (er ∙ ap numbersOf (sym (known-is t l a (length se) (tk .passed .table) (tk .passed .input-ok) places (o .final) h word (none-offer w))))
-    report-is {o = o} h (stops eo (unknown w er)) =
-        rw (eq-eqb (o .number) 31 eo) (er ∙ ap numbersOf (sym (unknown-is t l a (length se) (tk .passed .table) (tk .passed .input-ok) places (o .final) h (none-cut w))))
-
-    pub reads-on : {r : Answer} {st′ li′ se′ : List ℕ} → ReadsTo t l false 0 st li se a r st′ li′ se′ → ReadsAs (reading t l st li se a) r st′ li′ se′
-    unfolding readingOf
-    reads-on {r} w =
-        let eo = run-to-whole t l a (start st li) in
-        let h : Answers t 0 l a (length se) (run t l a (start st li)) r = rw eo at (w .answer) in
-        rw (unrefused t l st li se a e _ refl)
-        (record {
-          answer = report-is (ends-within t l st li a (tk .passed)) h;
-          stack = w .stack ∙ ap (λ (o : Outcome). o .final .stack) eo;
-          list = w .list ∙ ap (λ (o : Outcome). o .final .list) eo;
-          second = w .second;
-        })
-
-  pub refuses : (e : Refusal) → refusalNumber e ≡ refusalOf t l (length st) (length se) → ReadsAs (reading t l st li se a) (answer.Refused e) st li se
-  refuses e h = rw (refused-is t l st li se a (refusalNumber e) (sym h) (not-zero e)) (record { answer = refl; stack = refl; list = refl; second = refl })
-
-  -- under a limit of w bits a reading in w bits is answered, with a count of w bits
-  pub answered-in : (w : ℕ) {r : Answer} {st′ li′ se′ : List ℕ} → a < 2 ^ w → ReadsAs (reading t l st li se a) r st′ li′ se′
-      → (g : Reading) × ReadsIn w t l st li se a g × ReadsAs g r st′ li′ se′ × (getD (numbers r) 1 0 < 2 ^ w)
-  answered-in w f h =
-      let d = reads-some t l st li se a in
-      (reading t l st li se a, in-width w t l st li se a f (reading t l st li se a) .1 d, h, rw (h .answer) (count-in w f d))
-
--- ---- the restricted reading
 
 -- each terminal is a bit of a word
 pub terminals-small : (t : List ℕ) (closed : ℕ) (l : List ℕ) (n k : ℕ) → restrictedRefusal t closed l n k ≡ 0 → (i : ℕ) → getD l i 0 < 64
@@ -168,3 +121,10 @@ module _ (t : List ℕ) (closed : ℕ) (l st li se : List ℕ) (a : ℕ) where
           list = w .list ∙ ap (λ (o : Outcome). o .final .list) eo;
           second = w .second;
         })
+
+-- of the publisher's reading, under a limit of w bits: a reading in w bits is answered, with a count of w bits
+pub answered-in : (t l st li se : List ℕ) (a w : ℕ) {r : Answer} {st′ li′ se′ : List ℕ} → a < 2 ^ w → ReadsAs (reading t l st li se a) r st′ li′ se′
+    → (g : Reading) × ReadsIn w t l st li se a g × ReadsAs g r st′ li′ se′ × (getD (numbers r) 1 0 < 2 ^ w)
+answered-in t l st li se a w f h =
+    let d = reads-some t l st li se a in
+    (reading t l st li se a, in-width w t l st li se a f (reading t l st li se a) .1 d, h, rw (h .answer) (count-in w f d))

@@ -1,7 +1,7 @@
 -- What the loop of `run` keeps between checkpoints, and the laws of its ways out.
 use mathlib.Core.Path.{_≡_, refl, sym, ap, subst, _∙_}
 use mathlib.Core.Logic.{_≢_}
-use mathlib.Core.Bool.{Bool, cond, not, _&&_}
+use mathlib.Core.Bool.{Bool}
 use mathlib.Core.List.{List, _∷_}
 use Prim.Native.Nat.{ℕ, _+_, _-_, _^_, _<_, _≤_}
 use native.Mathlib.Omega.{arith}
@@ -9,7 +9,7 @@ use lib.ListN.{length, take, drop, set}
 use lib.Seq.{length-take-le}
 use Rattle.tables.specs.Shape.{Shaped}
 use Rattle.tables.specs.declared.Shape.{Shape}
-use Rattle.machine.specs.ComputedRun.{Machine, Outcome, run, start}
+use Rattle.machine.specs.ComputedRun.{Machine, Outcome, start}
 use Rattle.machine.specs.RunTo.{actionTo, runTo}
 use Rattle.machine.proofs.RunLaws.{run-to-none}
 use Rattle.machine.proofs.RunTo.{run-to-spent}

@@ -1,13 +1,13 @@
 -- What the search for the first closed terminal keeps.
 use Prim.Native.Nat.{ℕ, _+_, _^_, _<_, _≤_}
-use mathlib.Core.Path.{_≡_, refl, sym, ap, _∙_}
+use mathlib.Core.Path.{_≡_, sym, _∙_}
 use mathlib.Core.Bool.{Bool, true, false, false≢true}
 use mathlib.Core.Logic.{_⊎_, inl, inr, ⊎-elim}
 use mathlib.Core.List.{List}
 use native.Mathlib.Omega.{arith}
 use lib.ListN.{length, getD, take}
 use lib.Seq.{length-take-le, getD-take, take-length}
-use Rattle.sets.specs.Bit.{bit, Has}
+use Rattle.sets.specs.Bit.{bit}
 use lib.Dec.{ltb, leb}
 use borrow.Author.Tests.{ltb-true, leb-true}
 use Rattle.sets.specs.Tests.{allBelow}
@@ -38,13 +38,18 @@ module _ {closed : ℕ} {l : List ℕ} {i : ℕ} (g : Searching closed l i) wher
   pub search-over : length l ≤ i → OpenFront closed l i
   search-over h = record { within = g .within; before = line-open; there = λ k. absurd (omega arith) }
 
+-- a line without closed terminals
+all-open : {closed : ℕ} {l : List ℕ} → OpenLine closed l → OpenFront closed l (length l)
+all-open f = record { within = omega arith; before = rw take-length f; there = λ k. absurd (omega arith) }
+
+-- the word 0 closes nothing
+pub none-closed : (closed : ℕ) (l : List ℕ) → closed ≡ 0 → OpenFront closed l (length l)
+none-closed closed l e = all-open (λ i h b. false≢true (sym (bit-above 0 closed (getD l i 0) (omega arith) (omega arith)) ∙ b))
+
 -- no terminal lies among the closed ones
 pub outside-open : (closed lo hi : ℕ) (l : List ℕ) → ((m : ℕ) → m < lo → bit closed m ≡ false) → closed < 2 ^ hi → allBelow (length l) (outside lo hi l) ≡ true → OpenFront closed l (length l)
-outside-open closed lo hi l low high e = record { within = omega arith; before = λ i h. free i (rw take-length at h); there = λ k. absurd (omega arith) }
+outside-open closed lo hi l low high e = all-open (λ i h b. false≢true (sym (closed-not (getD l i 0) (or-cases _ _ (all-at (outside lo hi l) (length l) e i h))) ∙ b))
   where
     closed-not : (m : ℕ) → (ltb m lo ≡ true) ⊎ (leb hi m ≡ true) → bit closed m ≡ false
     closed-not m (inl h) = low m (ltb-true m lo h)
     closed-not m (inr h) = bit-above hi closed m high (leb-true hi m h)
-
-    free : (i : ℕ) → i < length l → Open closed (getD (take (length l) l) i 0)
-    free i h = rw take-length (λ b. false≢true (sym (closed-not (getD l i 0) (or-cases _ _ (all-at (outside lo hi l) (length l) e i h))) ∙ b))

@@ -416,11 +416,7 @@ pub fn parse(
 ) -> Answer
     ensures { λ r. ⌜ ReadsAs (reading (now (table .entry)) (now (input .entry)) (now (stack .entry)) (now (list .entry)) (now (second .entry)) «step_limit») r (now (stack .exit)) (now (list .exit)) (now (second .exit)) ⌝ }
 {
-    let v = table_checks::check(table, input, stack.len(), second.len());
-    match v {
-        Verdict::Refused(e) => Answer::Refused(e),
-        Verdict::Passed => read(table, input, false, 0, stack, list, second, step_limit),
-    }
+    parse_restricted(table, input, 0, stack, list, second, step_limit)
 }
 
 // Whether terminal b is closed. A terminal is less than 64, so that this is one test of a bit.
@@ -480,6 +476,9 @@ fn first_closed(input: &[u8], closed: u64) -> usize
     requires { ⌜ ((i : ℕ) → getD (now input) i 0 < 64) ⌝ }
     ensures { λ r. ⌜ OpenFront closed (now (input .entry)) r ⌝ }
 {
+    if closed == 0 {
+        return input.len();
+    }
     if all_outside(input, lowest_closed(closed), past_closed(closed)) {
         return input.len();
     }
@@ -528,7 +527,7 @@ pub fn parse_restricted(
 {
     let v = table_checks::check_restricted(table, input, closed, stack.len(), second.len());
     match v {
-        Verdict::Refused(why) => Answer::Refused(why),
+        Verdict::Refused(e) => Answer::Refused(e),
         Verdict::Passed => {
             read_restricted(table, input, closed, stack, list, second, step_limit)
         }

@@ -83,8 +83,7 @@ pub extern "C" fn sidumza_parse(
 )
     ensures { λ _. ⌜ WritesOut (reading (now (table .entry)) (now (input .entry)) (now (stack .entry)) (now (list .entry)) (now (second .entry)) «step_limit») (now (out .exit)) (now (stack .exit)) (now (list .exit)) (now (second .exit)) ⌝ }
 {
-    let a = parser::parse(table, input, stack, list, second, step_limit);
-    *out = seven(a);
+    sidumza_parse_restricted(table, input, 0, stack, list, second, step_limit, out);
 }
 
 #[no_mangle]

@@ -1,7 +1,7 @@
 use borrow.Author.Needs.{needs}
 use native.Mathlib.Omega.{arith}
 use Prim.Native.Nat.{ℕ, _-_, _^_, _<_}
-use mathlib.Core.Path.{_≡_, ap, subst}
+use mathlib.Core.Path.{_≡_, subst}
 use lib.Count.{leadingZeros, leading-le, leading-length}
 use Rattle.parser.proofs.past_closed.Statement.{statement}
 use Rattle.parser.proofs.past_closed.Tie as tie

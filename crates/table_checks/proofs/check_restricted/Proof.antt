@@ -1,4 +1,4 @@
-use Rattle.machine.specs.Checks.{tableRefusal, refusalOf, restrictedRefusal}
+use Rattle.machine.specs.Checks.{refusalOf, restrictedRefusal}
 use Rattle.sets.proofs.TestLaws.{neither}
 use Rattle.table_checks.proofs.VerdictLaws.{first-refused, no-refusal, first-passed}
 use borrow.Author.Needs.{needs}
