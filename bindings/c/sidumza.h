@@ -46,7 +46,7 @@ enum {
     SIDUMZA_BAD_CLOSED = 50,     /* sidumza_parse_restricted alone: the word has bit 0 or a bit from T on */
 
     /* Ends, tested in the order 31, 32, 34, 35, 33 before each step. 46 comes in place of 31. */
-    SIDUMZA_NO_ACTION = 31,  /* the input is no sentence: no action for the next terminal; or that is closed */
+    SIDUMZA_NO_ACTION = 31,  /* no action for the next terminal: the input is no sentence; or that terminal is closed */
     SIDUMZA_STEP_LIMIT = 32, /* as many steps made as allowed */
     SIDUMZA_STACK_FULL = 33, /* a push with no place left */
     SIDUMZA_LIST_FULL = 34,  /* a reduction with the list full */
@@ -175,18 +175,19 @@ void sidumza_parse(const uint16_t *table, size_t table_len, const uint8_t *input
  * the others are those of sidumza_parse, and 46 comes where one of them stops on 32, 33 or 35. The set may be empty: then
  * nothing that is open can stand there, nor can the input end there.
  *
- * A closed terminal ended the input, and no fault of grammar, where the number is 31 or 46, out[SIDUMZA_POSITION] is less
- * than input_len and closed >> input[out[SIDUMZA_POSITION]] & 1 is 1. Make the word of UINT64_C(1) << m, not of 1 << m.
+ * A closed terminal ended the input where the number is 31 or 46, out[SIDUMZA_POSITION] is less than input_len and
+ * closed >> input[out[SIDUMZA_POSITION]] & 1 is 1; whether the grammar would allow it there is not looked at. Make the word
+ * of UINT64_C(1) << m, not of 1 << m.
  *
  * Beside sidumza_parse on the same areas and step limit:
  * - With word 0 it answers the same, and leaves the same in every area.
  * - An input without closed terminals ends in the same way. Only the expected set is without the closed terminals, and 31
  *   comes for a 46 that only their fresh readings caused.
- * - Any other input ends at its first closed terminal with 31 or 46; or before it, as with sidumza_parse in the same sense,
- *   just where that stops before it. It is never accepted.
+ * - Any other input ends at its first closed terminal, with 31 or 46, unless sidumza_parse stops before that: then it ends
+ *   there as with sidumza_parse, but for the expected set and 46, as above. It is never accepted.
  * - So by the maker's table, where steps, stack and list suffice, an input is accepted just where it is a sentence without
- *   closed terminals, and what can follow are the open terminals with which the input before the position begins a
- *   sentence, any of the grammar: some may only be ended by closed terminals.
+ *   closed terminals. What can follow are the open terminals with which the input before the position begins a sentence,
+ *   and 0 where that input is one. Any sentence counts: it may be that only closed terminals complete it.
  *
  * What to lend and what a call costs: as for sidumza_parse. The first closed terminal is looked for once, before the first
  * step: less than 0.05 nanoseconds a terminal where no terminal of the input lies between the lowest and the highest closed

@@ -175,14 +175,14 @@ pub fn parse(
 /// As [`parse`], for a reader to whom some terminals are closed: the choir's reading, beside the publisher's.
 ///
 /// Bit m of `closed` is set for each closed terminal m; a word with bit 0 or with a bit from T on is refused
-/// ([`Refusal::BadClosed`]). Where the next terminal is closed the input is wrong ([`Answer::NoAction`]), before any
-/// reduction under it and whatever the step limit is, and no expected set has a closed terminal: no fresh reading is made
-/// for one, so none makes [`Answer::ExpectedUnknown`] of it.
+/// ([`Refusal::BadClosed`]). Where the next terminal is closed the input is wrong ([`Answer::NoAction`], or
+/// [`Answer::ExpectedUnknown`]), before any reduction under it and whatever the step limit is. No expected set has a closed
+/// terminal; no fresh reading is made for one, so none is the cause of [`Answer::ExpectedUnknown`].
 ///
 /// With word 0 it is [`parse`]. An input without closed terminals ends as with [`parse`], but for the expected set and for
-/// an [`Answer::ExpectedUnknown`] that only closed terminals caused; any other ends at its first closed terminal, or before
-/// it as with [`parse`] in the same sense, just where that stops before it. A closed terminal ended the input where
-/// `input.get(position).is_some_and(|&m| closed >> m & 1 == 1)`. `bindings/c/sidumza.h` says more.
+/// an [`Answer::ExpectedUnknown`] that only closed terminals caused. Any other ends at its first closed terminal, unless
+/// [`parse`] stops before that: then it ends there as with [`parse`], but for the same. A closed terminal ended the input
+/// where `input.get(position).is_some_and(|&m| closed >> m & 1 == 1)`. `bindings/c/sidumza.h` says more.
 #[cfg(feature = "parser")]
 pub fn parse_restricted(
     table: &[u16],

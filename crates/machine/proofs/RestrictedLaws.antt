@@ -23,6 +23,7 @@ use Rattle.machine.proofs.MaskedLaws.{closed-zero, masked-terminals, ma
 use Rattle.machine.proofs.LrMachineLaws.{Config, conf, Path}
 use Rattle.machine.proofs.Shifts.{Sound, start-sound, path-sound}
 use Rattle.machine.proofs.Explorations.{input-front}
+use Rattle.machine.proofs.ReportLaws.{stack-long, list-long, second-long}
 use Rattle.machine.proofs.ReadsLaws.{known-is, unknown-is, unrefused, refused-is, only-reading, faithful}
 use Rattle.machine.proofs.OpenPaths.{Passes, passes-open, open-forget, mask-path, unmask-path, mask-stops, unmask-stops}
 use Rattle.machine.proofs.OpenOffers.{open-stops, mask-cut, unmask-cut, mask-offer, unmask-offer}
@@ -156,6 +157,11 @@ module _ (t : List ℕ) (closed : ℕ) (l st li se : List ℕ) (a : ℕ) where
 
     pub only-restricted : {r : Reading} → RestrictedFaithful t closed l st li se a r → r ≡ restrictedReading t closed l st li se a
     only-restricted f = only-reading (masked closed t) l st li se a masked-unrefused (mask-faithful f) ∙ masked-is
+
+    -- the areas keep their lengths
+    pub restricted-long : {r : Reading} → RestrictedFaithful t closed l st li se a r
+        → (length (r .stack) ≡ length st) × (length (r .list) ≡ length li) × (length (r .second) ≡ length se)
+    restricted-long f = let g = mask-faithful f in (stack-long g, list-long g, second-long g)
 
   pub restricted-refused : (n : ℕ) → restrictedRefusal t closed l (length st) (length se) ≡ n → n ≢ 0
       → restrictedReading t closed l st li se a ≡ record { report = refused n; stack = st; list = li; second = se }

@@ -46,7 +46,7 @@ all-open f = record { within = omega arith; before = rw take-length f; there = �
 pub none-closed : (closed : ℕ) (l : List ℕ) → closed ≡ 0 → OpenFront closed l (length l)
 none-closed closed l e = all-open (λ i h b. false≢true (sym (bit-above 0 closed (getD l i 0) (omega arith) (omega arith)) ∙ b))
 
--- no terminal lies among the closed ones
+-- no terminal lies between the lowest and the highest closed one
 pub outside-open : (closed lo hi : ℕ) (l : List ℕ) → ((m : ℕ) → m < lo → bit closed m ≡ false) → closed < 2 ^ hi → allBelow (length l) (outside lo hi l) ≡ true → OpenFront closed l (length l)
 outside-open closed lo hi l low high e = all-open (λ i h b. false≢true (sym (closed-not (getD l i 0) (or-cases _ _ (all-at (outside lo hi l) (length l) e i h))) ∙ b))
   where

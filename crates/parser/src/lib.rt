@@ -470,8 +470,8 @@ fn all_outside(input: &[u8], lo: u8, hi: u8) -> bool
     ok
 }
 
-// The place of the first closed terminal, or the input's length. Where no terminal lies among the closed ones, that is
-// found without a test of each.
+// The place of the first closed terminal, or the input's length. Where no terminal lies between the lowest and the highest
+// closed one, that is found without a test of each.
 fn first_closed(input: &[u8], closed: u64) -> usize
     requires { ⌜ ((i : ℕ) → getD (now input) i 0 < 64) ⌝ }
     ensures { λ r. ⌜ OpenFront closed (now (input .entry)) r ⌝ }
