@@ -2,19 +2,14 @@
 // all of it.
 use crate::cases::{Case, Cases};
 use crate::reference::{self, bad_closed, Lent};
-use crate::{Entry, ENTRIES};
-use sidumza::{parse, parse_restricted};
+use crate::{wrapped, Entry, ENTRIES};
+use sidumza::Answer;
 
 // The answer's number and expected set, with so many places in stack and second area.
 fn answer(entry: Entry, c: &Case, places: [usize; 2], steps: usize) -> (u32, u64) {
-    let [mut stack, mut second] = places.map(|n| vec![0; n]);
-    let (list, steps) = (&mut c.list.clone(), steps as u64);
-    let answer = match entry {
-        Entry::Publisher => parse(&c.table, &c.input, &mut stack, list, &mut second, steps),
-        Entry::Choir => parse_restricted(&c.table, &c.input, c.closed, &mut stack, list, &mut second, steps),
-    };
-    match answer {
-        sidumza::Answer::NoAction { expected, .. } => (31, expected),
+    let ([stack, second], list) = (&mut places.map(|n| vec![0; n]), &mut c.list.clone());
+    match wrapped(c, entry, Lent { stack, list, second }, steps as u64) {
+        Answer::NoAction { expected, .. } => (31, expected),
         other => (other.number(), 0),
     }
 }

@@ -85,12 +85,14 @@ impl Result {
         self.second.clone_from(&c.second);
     }
 
+    fn lent(&mut self) -> Lent<'_> {
+        Lent { stack: &mut self.stack, list: &mut self.list, second: &mut self.second }
+    }
+
     // By the reference, with what it knows besides.
     fn plainly(&mut self, c: &Case, entry: Entry) -> Outcome {
         self.start(c);
-        let Result { stack, list, second, .. } = self;
-        let closed = entry.closed(c).unwrap_or(0);
-        let o = reference::parse(&c.table, &c.input, closed, Lent { stack, list, second }, c.limit);
+        let o = reference::parse(&c.table, &c.input, entry.closed(c).unwrap_or(0), self.lent(), c.limit);
         self.out = o.out;
         o
     }
@@ -138,13 +140,13 @@ struct Archive {
     calls: u64,
 }
 
-// A place for numbers, or none where there are no numbers and none is wanted.
-fn or_null<T: Copy>(place: &mut Guarded, numbers: &[T], null: bool) -> *mut T {
+// A place for numbers, or none where there are no numbers and none is wanted; and how many they are.
+fn or_null<T: Copy>(place: &mut Guarded, numbers: &[T], null: bool) -> (*mut T, usize) {
     let p = place.place(numbers);
     if null && numbers.is_empty() {
-        std::ptr::null_mut()
+        (std::ptr::null_mut(), 0)
     } else {
-        p
+        (p, numbers.len())
     }
 }
 
@@ -162,44 +164,18 @@ impl Archive {
 
     fn call(&mut self, c: &Case, entry: Entry) -> [u64; 7] {
         let null = self.calls % 5 < 2;
-        let table = or_null(&mut self.table, &c.table, null);
-        let input = or_null(&mut self.input, &c.input, null);
-        let stack = or_null(&mut self.stack, &c.stack, null);
-        let list = or_null(&mut self.list, &c.list, null);
-        let second = or_null(&mut self.second, &c.second, null);
+        let (table, t) = or_null(&mut self.table, &c.table, null);
+        let (input, i) = or_null(&mut self.input, &c.input, null);
+        let (stack, s) = or_null(&mut self.stack, &c.stack, null);
+        let (list, l) = or_null(&mut self.list, &c.list, null);
+        let (second, v) = or_null(&mut self.second, &c.second, null);
         let out = self.out.place(&[self.calls.wrapping_mul(0x9e3779b97f4a7c15); 7]);
         // SAFETY: six areas apart from each other, each as long as is said.
         unsafe {
-            match entry {
-                Entry::Publisher => sidumza_parse(
-                    table,
-                    c.table.len(),
-                    input,
-                    c.input.len(),
-                    stack,
-                    c.stack.len(),
-                    list,
-                    c.list.len(),
-                    second,
-                    c.second.len(),
-                    c.limit,
-                    out,
-                ),
-                Entry::Choir => sidumza_parse_restricted(
-                    table,
-                    c.table.len(),
-                    input,
-                    c.input.len(),
-                    c.closed,
-                    stack,
-                    c.stack.len(),
-                    list,
-                    c.list.len(),
-                    second,
-                    c.second.len(),
-                    c.limit,
-                    out,
-                ),
+            if let Some(word) = entry.closed(c) {
+                sidumza_parse_restricted(table, t, input, i, word, stack, s, list, l, second, v, c.limit, out);
+            } else {
+                sidumza_parse(table, t, input, i, stack, s, list, l, second, v, c.limit, out);
             }
         }
         assert!(self.table.take() == Some(&c.table[..]), "wrote the table");
@@ -214,17 +190,21 @@ impl Reader for Archive {
         // Another number of calls than a case has, so that each of them has its turn.
         if self.calls.is_multiple_of(11) {
             r.start(c);
-            let (table, input, Result { stack, list, second, .. }) = (&c.table, &c.input, &mut *r);
-            r.out = numbers(match entry {
-                Entry::Publisher => sidumza::parse(table, input, stack, list, second, c.limit),
-                Entry::Choir => sidumza::parse_restricted(table, input, c.closed, stack, list, second, c.limit),
-            });
+            r.out = numbers(wrapped(c, entry, r.lent(), c.limit));
             return;
         }
         r.out = self.call(c, entry);
         taken(&self.stack, &mut r.stack);
         taken(&self.list, &mut r.list);
         taken(&self.second, &mut r.second);
+    }
+}
+
+// By the Rust wrapper.
+fn wrapped(c: &Case, entry: Entry, Lent { stack, list, second }: Lent, limit: u64) -> Answer {
+    match entry.closed(c) {
+        None => sidumza::parse(&c.table, &c.input, stack, list, second, limit),
+        Some(word) => sidumza::parse_restricted(&c.table, &c.input, word, stack, list, second, limit),
     }
 }
 

@@ -264,8 +264,6 @@ struct Closed {
     at: AtClosed,
     // Wrong before the first closed terminal, and stopped there by 32, 33, 34 and 35.
     before: [u64; 5],
-    // One of 65,535 terminals closed, the last.
-    longest: u64,
 }
 
 // Inputs without closed terminals, by words that close some: accepted; 31 with fewer terminals than the publisher's; 31 for
@@ -286,14 +284,24 @@ impl Without {
         self.relieved += (numbers == [46, 31]) as u64;
         self.unknown += (numbers == [46, 46]) as u64;
     }
+
+    fn all(&self) -> [Counted; 4] {
+        [
+            ("nothing closed in the input: accepted", self.accepted, 100),
+            ("nothing closed in the input: a smaller set than the publisher's", self.narrowed, 100),
+            ("nothing closed in the input: 31 for the publisher's 46", self.relieved, 100),
+            ("nothing closed in the input: 46 for both", self.unknown, 100),
+        ]
+    }
 }
 
 // Ends at a closed terminal.
 #[derive(Default)]
 struct AtClosed {
-    // It is the first, or the last, of the input.
+    // It is the first, the last, or the last of 65,535 of the input.
     first: u64,
     last: u64,
+    longest: u64,
     // No step, no place of the stack, or none of the list is left.
     limits: [u64; 3],
     // The publisher's reading goes on with a shift, with a reduction, or has no action for it.
@@ -311,6 +319,7 @@ impl AtClosed {
         let [number, steps, depth, listed, position, set, _] = choir.out;
         self.first += (position == 0) as u64;
         self.last += (position + 1 == c.input.len() as u64) as u64;
+        self.longest += (position == 65534) as u64;
         let left = [steps == c.limit, depth == c.stack.len() as u64, listed == c.list.len() as u64];
         self.limits.iter_mut().zip(left).for_each(|(many, none)| *many += none as u64);
         let action = reference::action(&c.table, stack[depth as usize - 1], c.input[position as usize]);
@@ -323,6 +332,26 @@ impl AtClosed {
         self.relieved += (both && [publisher.out[0], number] == [46, 31]) as u64;
         let sets = [set == 0, set == 1, set > 1];
         self.sets.iter_mut().zip(sets).for_each(|(many, it)| *many += (number == 31 && it) as u64);
+    }
+
+    fn all(&self) -> [Counted; 14] {
+        let ([left, room, listed], [empty, end, others]) = (self.limits, self.sets);
+        [
+            ("at a closed terminal, the first", self.first, 100),
+            ("at a closed terminal, the last", self.last, 100),
+            ("at a closed terminal, no step left", left, 100),
+            ("at a closed terminal, no place of the stack left", room, 100),
+            ("at a closed terminal, no place of the list left", listed, 100),
+            ("at a closed terminal that the publisher's shifts", self.shifted, 100),
+            ("at a closed terminal under which the publisher's reduces", self.reduced, 100),
+            ("at a closed terminal for which the publisher's has no action", self.wrong, 100),
+            ("at a closed terminal, 46", self.unknown, 100),
+            ("at a closed terminal, 31 for the publisher's 46 there", self.relieved, 100),
+            ("at a closed terminal, 31 with an empty set", empty, 100),
+            ("at a closed terminal, 31 with the end marker alone", end, 100),
+            ("at a closed terminal, 31 with others", others, 100),
+            ("at a closed terminal, the last of 65535", self.longest, 10),
+        ]
     }
 }
 
@@ -359,10 +388,7 @@ impl Closed {
             return;
         };
         match number {
-            31 | 46 if choir.out[4] == first as u64 => {
-                self.at.count(c, publisher, choir, stack);
-                self.longest += (first == 65534) as u64;
-            }
+            31 | 46 if choir.out[4] == first as u64 => self.at.count(c, publisher, choir, stack),
             31 | 46 => self.before[0] += 1,
             _ => self.before[number as usize - 31] += 1,
         }
@@ -370,9 +396,8 @@ impl Closed {
 
     fn all(&self) -> Vec<Counted> {
         let ([zero, t, above], [cell, entered, long, terminal, stack, second]) = (self.bits, self.beside);
-        let ([wrong, steps, place, list, broken], [left, room, listed]) = (self.before, self.at.limits);
-        let [empty, end, others] = self.at.sets;
-        vec![
+        let [wrong, steps, place, list, broken] = self.before;
+        let own = [
             ("50 for bit 0 alone", zero, 100),
             ("50 for bit T alone", t, 100),
             ("50 for bits behind T alone", above, 100),
@@ -385,29 +410,12 @@ impl Closed {
             ("26 beside 50", terminal, 100),
             ("27 beside 50", stack, 100),
             ("45 beside 50", second, 100),
-            ("nothing closed in the input: accepted", self.without.accepted, 100),
-            ("nothing closed in the input: a smaller set than the publisher's", self.without.narrowed, 100),
-            ("nothing closed in the input: 31 for the publisher's 46", self.without.relieved, 100),
-            ("nothing closed in the input: 46 for both", self.without.unknown, 100),
             ("wrong before a closed terminal", wrong, 100),
             ("32 before a closed terminal", steps, 100),
             ("33 before a closed terminal", place, 100),
             ("34 before a closed terminal", list, 100),
             ("35 before a closed terminal", broken, 100),
-            ("at a closed terminal, the first", self.at.first, 100),
-            ("at a closed terminal, the last", self.at.last, 100),
-            ("at a closed terminal, no step left", left, 100),
-            ("at a closed terminal, no place of the stack left", room, 100),
-            ("at a closed terminal, no place of the list left", listed, 100),
-            ("at a closed terminal that the publisher's shifts", self.at.shifted, 100),
-            ("at a closed terminal under which the publisher's reduces", self.at.reduced, 100),
-            ("at a closed terminal for which the publisher's has no action", self.at.wrong, 100),
-            ("at a closed terminal, 46", self.at.unknown, 100),
-            ("at a closed terminal, 31 for the publisher's 46 there", self.at.relieved, 100),
-            ("at a closed terminal, 31 with an empty set", empty, 100),
-            ("at a closed terminal, 31 with the end marker alone", end, 100),
-            ("at a closed terminal, 31 with others", others, 100),
-            ("at a closed terminal, the last of 65535", self.longest, 10),
-        ]
+        ];
+        [&own[..], &self.without.all(), &self.at.all()].concat()
     }
 }
