@@ -100,6 +100,20 @@ fn after_reductions() -> Box<Choir> {
     })
 }
 
+/// The place behind a closed terminal is told.
+fn one_further() -> Box<Choir> {
+    answer(|closed, input, out| out[4] += u64::from(at_closed(closed, input, out)))
+}
+
+/// The first closed terminal is told, also behind a wrong one.
+fn behind_wrong() -> Box<Choir> {
+    answer(|closed, input, out| {
+        if let (31 | 46, Some(at)) = (out[0], first(closed, input)) {
+            out[4] = at as u64;
+        }
+    })
+}
+
 /// Wrong in what a closed terminal does to the reading, in the word or in its limits.
 pub fn calls() -> Vec<(&'static str, Box<Choir>)> {
     vec![
@@ -141,20 +155,8 @@ pub fn sets() -> Vec<(&'static str, Box<Choir>)> {
     vec![
         ("closed: read as a publisher", publishers()),
         ("closed: taken for the end", cut()),
-        (
-            "closed: position one further",
-            answer(|closed, input, out| {
-                out[4] += u64::from(at_closed(closed, input, out));
-            }),
-        ),
-        (
-            "closed: named behind a wrong terminal",
-            answer(|closed, input, out| {
-                if let (31 | 46, Some(at)) = (out[0], first(closed, input)) {
-                    out[4] = at as u64;
-                }
-            }),
-        ),
+        ("closed: position one further", one_further()),
+        ("closed: named behind a wrong terminal", behind_wrong()),
         ("closed: terminal T - 1 never closed", word(|t, word| word & !(1 << (t - 1)))),
         ("closed: in the expected set", by_offer(|_, _, _, end| end)),
         (

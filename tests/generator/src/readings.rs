@@ -4,7 +4,7 @@
 use reference::derivation::{is_rightmost, sentence, Shortest};
 use reference::earley::{recognise, Recognition};
 use reference::grammar::Grammar;
-use reference::parser::{parse, parse_restricted, Outcome};
+use reference::parser::{parse_restricted, Outcome};
 use reference::random::Random;
 use reference::spans::{follow, Derivations, Spans};
 
@@ -162,7 +162,7 @@ impl Readings {
         self.lend(random);
         let thorough = random.chance(5);
         self.compare(table, input, closed, calls)
-            .and_then(|end| self.known(grammar, table, input, closed, &end, thorough))
+            .and_then(|end| self.known(grammar, table, input, closed.unwrap_or(0), &end, thorough))
             .map_err(|what| {
                 let [stack, list, second] =
                     [&self.stack, &self.list, &self.second].map(|a| a.length);
@@ -214,11 +214,8 @@ impl Readings {
         };
         if self.plainly {
             let (s, l, v) = (stack.theirs(), list.theirs(), second.theirs());
-            let expected = match closed {
-                None => parse(table, input, s, l, v, limit),
-                Some(word) => parse_restricted(table, input, word, s, l, v, limit),
-            }
-            .out();
+            let word = closed.unwrap_or(0);
+            let expected = parse_restricted(table, input, word, s, l, v, limit).out();
             if out != expected {
                 return Err(format!("answer {out:?}, expected {expected:?}"));
             }
@@ -253,31 +250,25 @@ impl Readings {
         grammar: &Grammar,
         table: &[u16],
         input: &[u8],
-        closed: Option<u64>,
+        closed: u64,
         end: &Outcome,
         thorough: bool,
     ) -> Result<(), String> {
-        let word = closed.unwrap_or(0);
-        let refusal = self.refusal(grammar, input, word);
+        let refusal = self.refusal(grammar, input, closed);
         if refusal != 0 {
-            self.counts.refused += 1;
-            self.counts.second_short += u64::from(refusal == 45);
-            self.counts.closed.refused += u64::from(refusal == 50);
-            let told = end.number == refusal;
-            return told.then_some(()).ok_or(format!("ended with {}, not {refusal}", end.number));
+            return self.refused(refusal, end);
         }
         // Wrong at the first closed terminal, or before it where those before are.
-        let first = input.iter().position(|&m| word >> m & 1 == 1);
+        let first = input.iter().position(|&m| closed >> m & 1 == 1);
         let mut known = recognise(grammar, &input[..first.unwrap_or(input.len())]);
-        self.counts.closed.count(word, first, end, known);
+        self.counts.closed.count(closed, first, end, known);
         known.sentence &= first.is_none();
-        let (stack, list) = (self.stack.length as u64, self.list.length as u64);
         match end.number {
             0 => self.accepted(grammar, input, end, known)?,
             31 => {
                 self.wrong(input, end, known)?;
-                self.offer(grammar, &input[..known.begins], word, end, known, thorough)?;
-                if word == 0 {
+                self.offer(grammar, &input[..known.begins], closed, end, known, thorough)?;
+                if closed == 0 {
                     self.count_offer(table, end);
                 }
             }
@@ -285,13 +276,30 @@ impl Readings {
                 self.wrong(input, end, known)?;
                 self.no_offer(end)?;
             }
-            32 if end.steps == self.limit => self.counts.ran_out += 1,
-            33 if end.depth == stack => self.counts.ran_out += 1,
-            34 if end.listed == list => self.counts.ran_out += 1,
-            number => return Err(format!("ended with {number}")),
+            _ => self.ran_out(end)?,
         }
         let zero = self.second.ours().iter().all(|&place| place == 0);
         zero.then_some(()).ok_or("the second area is not zero".into())
+    }
+
+    fn refused(&mut self, refusal: u64, end: &Outcome) -> Result<(), String> {
+        self.counts.refused += 1;
+        self.counts.second_short += u64::from(refusal == 45);
+        self.counts.closed.refused += u64::from(refusal == 50);
+        let told = end.number == refusal;
+        told.then_some(()).ok_or(format!("ended with {}, not {refusal}", end.number))
+    }
+
+    /// 32, 33 or 34, and no steps or places left.
+    fn ran_out(&mut self, end: &Outcome) -> Result<(), String> {
+        let none_left = match end.number {
+            32 => end.steps == self.limit,
+            33 => end.depth == self.stack.length as u64,
+            34 => end.listed == self.list.length as u64,
+            _ => false,
+        };
+        self.counts.ran_out += u64::from(none_left);
+        none_left.then_some(()).ok_or(format!("ended with {}", end.number))
     }
 
     fn accepted(

@@ -112,13 +112,26 @@ impl<'a> Reading<'a> {
     fn new(
         table: &'a Table<'a>,
         input: &'a [u8],
+        closed: u64,
         stack: &'a mut [u16],
         list: Option<&'a mut [u16]>,
         step_limit: u64,
     ) -> Reading<'a> {
         stack[0] = 0;
-        let (closed, steps, depth, listed, position) = (0, 0, 1, 0, 0);
+        let (steps, depth, listed, position) = (0, 1, 0, 0);
         Reading { table, input, stack, list, closed, step_limit, steps, depth, listed, position }
+    }
+
+    /// Reads to the end.
+    fn run(&mut self) -> Outcome {
+        let number = loop {
+            if let Some(end) = self.step() {
+                break end;
+            }
+        };
+        let (depth, listed) = (self.depth as u64, self.listed as u64);
+        let position = if number == 31 { self.position as u64 } else { 0 };
+        Outcome { number, steps: self.steps, depth, listed, position, ..Outcome::default() }
     }
 
     /// Makes a step, or gives the end that comes before it; 0 with the acceptance.
@@ -202,7 +215,7 @@ fn fresh(
     if terminal != 0 {
         line.push(terminal as u8);
     }
-    let mut reading = Reading::new(table, &line, second, None, step_limit);
+    let mut reading = Reading::new(table, &line, 0, second, None, step_limit);
     loop {
         if reading.position > before.len() {
             return 0;
@@ -284,19 +297,9 @@ pub fn parse_restricted(
     if let Some(number) = lent.or(bad_closed(table.terminals, closed)) {
         return refused(number);
     }
-    let mut reading = Reading::new(&table, input, stack, Some(list), step_limit);
-    reading.closed = closed;
-    let number = loop {
-        if let Some(end) = reading.step() {
-            break end;
-        }
-    };
-    let Reading { steps, depth, listed, position, .. } = reading;
-    let (depth, listed) = (depth as u64, listed as u64);
-    let mut end = Outcome { number, steps, depth, listed, ..Outcome::default() };
-    if number == 31 {
-        end.position = position as u64;
-        match offer(&table, &input[..position], closed, second, step_limit) {
+    let mut end = Reading::new(&table, input, closed, stack, Some(list), step_limit).run();
+    if end.number == 31 {
+        match offer(&table, &input[..end.position as usize], closed, second, step_limit) {
             Some(offered) => {
                 end.expected = offered;
                 end.expected_count = u64::from(offered.count_ones());
