@@ -79,6 +79,25 @@ fn limits(args: &[String]) -> [u64; 4] {
     limits
 }
 
+// Says why no line is read: the table of so many terminals, an area or the word is refused.
+fn refused(refusal: Refusal, path: &str, terminals: u16) -> ! {
+    let what = match refusal {
+        Refusal::NoStack => "STACK",
+        Refusal::SecondShort => "SECOND",
+        Refusal::BadClosed => {
+            fail(format!("TERMINALS: refused 50: the table has terminals below {terminals}, and 0 cannot be closed"))
+        }
+        _ => path,
+    };
+    fail(format!("{what}: {refusal}"))
+}
+
+// The terminals of a line; None where it has something else.
+fn line_of_terminals(line: &[u8]) -> Option<Vec<u8>> {
+    let line = String::from_utf8_lossy(line);
+    line.split_ascii_whitespace().map(|word| Some(number(word, 255)? as u8)).collect()
+}
+
 fn main() {
     let mut args: Vec<String> = std::env::args_os().map(|a| a.to_string_lossy().into_owned()).collect();
     let restricted = args.len() > 2 && args[1] == "--closed";
@@ -96,15 +115,7 @@ fn main() {
         (answer, show(answer, input, closed.unwrap_or(0), &table, &stack, &list))
     };
     if let (Answer::Refused { refusal }, _) = read(&[], 0) {
-        let what = match refusal {
-            Refusal::NoStack => "STACK",
-            Refusal::SecondShort => "SECOND",
-            Refusal::BadClosed => {
-                fail(format!("TERMINALS: refused 50: the table has terminals below {}, and 0 cannot be closed", table[1]))
-            }
-            _ => path,
-        };
-        fail(format!("{what}: {refusal}"));
+        refused(refusal, path, table[1]);
     }
     let mut out = std::io::BufWriter::new(std::io::stdout().lock());
     for (k, line) in std::io::stdin().lock().split(b'\n').enumerate() {
@@ -112,9 +123,7 @@ fn main() {
             let _ = out.flush();
             fail(e.to_string())
         });
-        let line = String::from_utf8_lossy(&line);
-        let input: Option<Vec<u8>> = line.split_ascii_whitespace().map(|w| Some(number(w, 255)? as u8)).collect();
-        let Some(input) = input else {
+        let Some(input) = line_of_terminals(&line) else {
             let _ = out.flush();
             fail(format!("line {}: not a line of terminals", k + 1))
         };

@@ -240,93 +240,131 @@ static void compare_area(const char *which, const uint16_t *area) {
         }
 }
 
-static int starts(const char *line, const char *word, const char **rest) {
+static int is(const char *line, const char *word) {
     size_t length = strlen(word);
-    if (strncmp(line, word, length) != 0 || (line[length] != ' ' && line[length] != 0))
-        return 0;
-    *rest = line + length;
-    return 1;
+    return strncmp(line, word, length) == 0 && (line[length] == ' ' || line[length] == 0);
+}
+
+static void compare_entered(void) {
+    if (count != table[0])
+        malformed();
+    for (size_t i = 0; i < count; i++)
+        if (table[entered_place() + i] != values[i])
+            fail("entering symbol of state", i);
+}
+
+static void compare_row(void) {
+    size_t columns = (size_t)table[1] + table[2];
+    if (count != columns + 1)
+        malformed();
+    const uint16_t *row = table + row_place(values[0]);
+    for (size_t i = 0; i < columns; i++)
+        if (row[i] != values[i + 1])
+            fail("row differs at column", i);
+}
+
+static void compare_table(void) {
+    if (count != table_length())
+        malformed();
+    for (size_t i = 0; i < count; i++)
+        if (table[i] != values[i])
+            fail("table differs at place", i);
+}
+
+/* A line of a `make` case behind its answer: what the table must have. */
+static void made_line(const char *line) {
+    if (is(line, "states") && count == 1) {
+        if (table[0] != values[0])
+            fail("number of states", table[0]);
+    } else if (is(line, "entered")) {
+        compare_entered();
+    } else if (is(line, "row")) {
+        compare_row();
+    } else if (is(line, "cell") && count == 3) {
+        uint16_t cell = table[row_place(values[0]) + values[1]];
+        if (cell != values[2])
+            fail("cell", cell);
+    } else if (is(line, "table")) {
+        compare_table();
+    } else {
+        malformed();
+    }
+}
+
+static void make_line(const char *line) {
+    if (is(line, "card")) {
+        numbers16(card, &card_len);
+    } else if (is(line, "areas") && count == 3) {
+        for (size_t i = 0; i < 3; i++)
+            areas[i] = (size_t)values[i];
+        if (areas[0] > TABLE + LONGER || areas[1] > WORK + LONGER || areas[2] > WORK2 + LONGER)
+            malformed();
+    } else if (answered) {
+        made_line(line);
+    } else {
+        malformed();
+    }
+}
+
+/* One number for the call. */
+static void set_number(const char *line) {
+    if (is(line, "stack")) {
+        stack_len = (size_t)values[0];
+    } else if (is(line, "list")) {
+        list_len = (size_t)values[0];
+    } else if (is(line, "second")) {
+        second_len = (size_t)values[0];
+        second_given = 1;
+    } else if (is(line, "limit")) {
+        limit = values[0];
+    } else if (is(line, "closed")) {
+        closed = values[0];
+        closed_given = 1;
+    } else {
+        malformed();
+    }
+}
+
+static void parse_line(const char *line) {
+    if (is(line, "table")) {
+        numbers16(given, &given_len);
+    } else if (is(line, "input")) {
+        for (size_t i = 0; i < count; i++)
+            input[i] = (uint8_t)values[i];
+        input_len = count;
+    } else if (answered && is(line, "stacked")) {
+        compare_area("stack", stack);
+    } else if (answered && is(line, "listed")) {
+        compare_area("list", list);
+    } else if (count == 1) {
+        set_number(line);
+    } else {
+        malformed();
+    }
 }
 
 static void read_line(const char *line) {
-    const char *rest;
-    if (starts(line, "make", &rest)) {
-        begin('m', rest + 1);
+    const char *rest = strchr(line, ' ');
+    if (is(line, "make") || is(line, "parse")) {
+        begin(line[0], rest ? rest + 1 : "");
         return;
     }
-    if (starts(line, "parse", &rest)) {
-        begin('p', rest + 1);
-        return;
-    }
-    if (starts(line, "made", &rest)) {
+    if (is(line, "made")) {
         memcpy(given, made, sizeof made);
         given_len = TABLE;
         return;
     }
-    rest = strchr(line, ' ');
     numbers(rest ? rest : "");
-    if (starts(line, "answer", &rest)) {
+    if (is(line, "answer")) {
         answered = 1;
         if (kind == 'm')
             run_make();
         else
             run_parse();
-    } else if (kind == 'm' && starts(line, "card", &rest)) {
-        numbers16(card, &card_len);
-    } else if (kind == 'm' && starts(line, "areas", &rest) && count == 3) {
-        for (size_t i = 0; i < 3; i++)
-            areas[i] = (size_t)values[i];
-        if (areas[0] > TABLE + LONGER || areas[1] > WORK + LONGER || areas[2] > WORK2 + LONGER)
-            malformed();
-    } else if (kind == 'm' && answered && starts(line, "states", &rest) && count == 1) {
-        if (table[0] != values[0])
-            fail("number of states", table[0]);
-    } else if (kind == 'm' && answered && starts(line, "entered", &rest)) {
-        if (count != table[0])
-            malformed();
-        for (size_t i = 0; i < count; i++)
-            if (table[entered_place() + i] != values[i])
-                fail("entering symbol of state", i);
-    } else if (kind == 'm' && answered && starts(line, "row", &rest)) {
-        size_t columns = (size_t)table[1] + table[2];
-        if (count != columns + 1)
-            malformed();
-        const uint16_t *row = table + row_place(values[0]);
-        for (size_t i = 0; i < columns; i++)
-            if (row[i] != values[i + 1])
-                fail("row differs at column", i);
-    } else if (kind == 'm' && answered && starts(line, "cell", &rest) && count == 3) {
-        uint16_t cell = table[row_place(values[0]) + values[1]];
-        if (cell != values[2])
-            fail("cell", cell);
-    } else if (kind == 'm' && answered && starts(line, "table", &rest)) {
-        if (count != table_length())
-            malformed();
-        for (size_t i = 0; i < count; i++)
-            if (table[i] != values[i])
-                fail("table differs at place", i);
-    } else if (kind == 'p' && starts(line, "table", &rest)) {
-        numbers16(given, &given_len);
-    } else if (kind == 'p' && starts(line, "input", &rest)) {
-        for (size_t i = 0; i < count; i++)
-            input[i] = (uint8_t)values[i];
-        input_len = count;
-    } else if (kind == 'p' && starts(line, "stack", &rest) && count == 1) {
-        stack_len = (size_t)values[0];
-    } else if (kind == 'p' && starts(line, "list", &rest) && count == 1) {
-        list_len = (size_t)values[0];
-    } else if (kind == 'p' && starts(line, "second", &rest) && count == 1) {
-        second_len = (size_t)values[0];
-        second_given = 1;
-    } else if (kind == 'p' && starts(line, "limit", &rest) && count == 1) {
-        limit = values[0];
-    } else if (kind == 'p' && starts(line, "closed", &rest) && count == 1) {
-        closed = values[0];
-        closed_given = 1;
-    } else if (kind == 'p' && answered && starts(line, "stacked", &rest)) {
-        compare_area("stack", stack);
-    } else if (kind == 'p' && answered && starts(line, "listed", &rest)) {
-        compare_area("list", list);
+    } else if (kind == 'm') {
+        make_line(line);
+    } else if (kind == 'p') {
+        parse_line(line);
     } else {
         malformed();
     }
