@@ -6,7 +6,7 @@
  * input. Each line gets one line of answer. That of a wrong line names the symbols that the terminals before
  * the place were read as, those under which the states on the stack were entered, and the terminals that can follow there.
  *
- * TERMINALS, up to 63 in decimal with commas between, are closed: the lines are read as a choir's, in which such a terminal
+ * TERMINALS, numbers up to 63 with commas between, are closed: the lines are read as a choir's, in which such a terminal
  * is wrong (the answer begins with `closed` in place of `wrong`) and none can follow. The end marker 0, and what is no
  * terminal of the table, cannot be closed (50): a message, and status 2. Without it the lines are a publisher's.
  *
@@ -117,14 +117,14 @@ enum { LIMIT, STACK, LIST, SECOND, LIMITS };
 /* What a page lends to the parser. */
 struct page {
     uint64_t limits[LIMITS], closed;
-    int restricted;
+    const char *list_of_closed; /* TERMINALS; NULL for a publisher */
     uint16_t table[SIDUMZA_TABLE_MOST], *stack, *list, *second;
     size_t table_len;
 };
 
 static void parse(struct page *p, const uint8_t *input, size_t n, uint64_t step_limit, uint64_t *out)
 {
-    if (p->restricted)
+    if (p->list_of_closed)
         sidumza_parse_restricted(p->table, p->table_len, input, n, p->closed, p->stack, p->limits[STACK], p->list,
                                  p->limits[LIST], p->second, p->limits[SECOND], step_limit, out);
     else
@@ -139,7 +139,7 @@ static void show_wrong(const struct page *p, const uint8_t *input, size_t n, con
     uint8_t terminals[64];
     size_t many = sidumza_terminals(out[SIDUMZA_EXPECTED], terminals);
     uint64_t at = out[SIDUMZA_POSITION];
-    int closed = p->restricted && at < n && (p->closed >> input[at] & 1);
+    int closed = p->list_of_closed && at < n && (p->closed >> input[at] & 1);
     printf("%s at %llu: steps %llu", closed ? "closed" : "wrong", (unsigned long long)at,
            (unsigned long long)out[SIDUMZA_STEPS]);
     for (uint64_t i = 1; i < out[SIDUMZA_DEPTH]; i++)
@@ -149,6 +149,8 @@ static void show_wrong(const struct page *p, const uint8_t *input, size_t n, con
         printf(" %u", terminals[i]);
     if (out[SIDUMZA_NUMBER] == SIDUMZA_EXPECTED_UNKNOWN)
         printf(" unknown (46)");
+    else if (many == 0)
+        printf(" nothing");
 }
 
 static void show(const struct page *p, const uint8_t *input, size_t n_input, const uint64_t *out)
@@ -179,7 +181,7 @@ static uint64_t closed_word(const char *list)
         char *end;
         unsigned long m = isdigit((unsigned char)*s) ? strtoul(s, &end, 10) : 64;
         if (m > 63 || (*end && *end != ','))
-            fail("%s: not terminals up to 63 with commas between", list);
+            fail("--closed %s: not numbers up to 63 with commas between", list);
         word |= (uint64_t)1 << m;
         s = end;
     } while (*s++);
@@ -190,7 +192,10 @@ static uint64_t closed_word(const char *list)
 static void arguments(int argc, char **argv, uint64_t limits[LIMITS])
 {
     static const uint64_t most[LIMITS] = {UINT64_MAX, 1 << 24, 1 << 24, 1 << 24};
-    if (argc < 2 || argc > 2 + LIMITS || strncmp(argv[1], "--", 2) == 0)
+    int usable = argc >= 2 && argc <= 2 + LIMITS;
+    for (int i = 1; i < argc; i++)
+        usable &= strncmp(argv[i], "--", 2) != 0;
+    if (!usable)
         fail("usage: page [--closed TERMINALS] TABLE [STEP_LIMIT [STACK [LIST [SECOND]]]]");
     for (int i = 2; i < argc; i++) {
         char *s = argv[i];
@@ -211,8 +216,10 @@ static void open_page(struct page *p, const char *path)
     p->second = room(NULL, p->limits[SECOND] * sizeof *p->second);
     parse(p, NULL, 0, 0, out);
     uint64_t n = out[SIDUMZA_NUMBER];
+    if (n == SIDUMZA_BAD_CLOSED && p->table[1] == 1)
+        fail("--closed %s: refused 50: nothing can be closed", p->list_of_closed);
     if (n == SIDUMZA_BAD_CLOSED)
-        fail("TERMINALS: refused 50: the table has terminals below %u, and 0 cannot be closed", p->table[1]);
+        fail("--closed %s: refused 50: only 1 to %d can be closed", p->list_of_closed, p->table[1] - 1);
     if (out[SIDUMZA_DEPTH] == 0)
         fail("%s: refused %d: %s",
              n == SIDUMZA_NO_STACK       ? "STACK"
@@ -226,8 +233,8 @@ int main(int argc, char **argv)
     static struct page page = {.limits = {1000000, 65536, 1000000}};
     uint64_t out[SIDUMZA_OUT];
     if (argc > 2 && strcmp(argv[1], "--closed") == 0) {
+        page.list_of_closed = argv[2];
         page.closed = closed_word(argv[2]);
-        page.restricted = 1;
         argc -= 2, argv += 2;
     }
     arguments(argc, argv, page.limits);
@@ -249,7 +256,7 @@ int main(int argc, char **argv)
         parse(&page, input, n, page.limits[LIMIT], out);
         show(&page, input, n, out);
     }
-    if (ferror(stdin) || fflush(stdout) != 0)
+    if (ferror(stdin) || fflush(stdout) != 0 || ferror(stdout))
         fail("cannot read or write");
     free(line);
     free(input);

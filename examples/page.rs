@@ -6,7 +6,7 @@
 // input. Each line gets one line of answer. That of a wrong line names the symbols that the terminals before
 // the place were read as, those under which the states on the stack were entered, and the terminals that can follow there.
 //
-// TERMINALS, up to 63 in decimal with commas between, are closed: the lines are read as a choir's, in which such a terminal
+// TERMINALS, numbers up to 63 with commas between, are closed: the lines are read as a choir's, in which such a terminal
 // is wrong (the answer begins with `closed` in place of `wrong`) and none can follow. The end marker 0, and what is no
 // terminal of the table, cannot be closed (50): a message, and status 2. Without it the lines are a publisher's.
 //
@@ -50,6 +50,7 @@ fn show(answer: Answer, input: &[u8], closed: u64, table: &[u16], stack: &[u16],
             let listed = words(list[..counts.listed].iter().map(|&p| p.into()));
             format!("accepted: steps {}, productions{listed}", counts.steps)
         }
+        Answer::NoAction { position, expected: 0, counts, .. } => wrong(position, counts, " nothing".to_string()),
         Answer::NoAction { position, expected, counts, .. } => wrong(position, counts, words(terminals(expected))),
         Answer::ExpectedUnknown { position, counts } => wrong(position, counts, " unknown (46)".to_string()),
         other => other.to_string(),
@@ -60,13 +61,13 @@ fn show(answer: Answer, input: &[u8], closed: u64, table: &[u16], stack: &[u16],
 fn closed_word(list: &str) -> u64 {
     let bit = |word| number(word, 63).map(|m| 1 << m);
     let word = list.split(',').try_fold(0, |all, word| Some(all | bit(word)?));
-    word.unwrap_or_else(|| fail(format!("{list}: not terminals up to 63 with commas between")))
+    word.unwrap_or_else(|| fail(format!("--closed {list}: not numbers up to 63 with commas between")))
 }
 
 // The step limit and the lengths of stack, list and second area, where arguments give them.
 fn limits(args: &[String]) -> [u64; 4] {
     let most = [u64::MAX, 1 << 24, 1 << 24, 1 << 24];
-    if args.len() < 2 || args.len() > 2 + most.len() || args[1].starts_with("--") {
+    if args.len() < 2 || args.len() > 2 + most.len() || args[1..].iter().any(|word| word.starts_with("--")) {
         fail("usage: page [--closed TERMINALS] TABLE [STEP_LIMIT [STACK [LIST [SECOND]]]]".to_string());
     }
     let mut limits = [1000000, 65536, 1000000, 0];
@@ -79,14 +80,13 @@ fn limits(args: &[String]) -> [u64; 4] {
     limits
 }
 
-// Says why no line is read: the table of so many terminals, an area or the word is refused.
-fn refused(refusal: Refusal, path: &str, terminals: u16) -> ! {
+// Says why no line is read: the table of so many terminals, an area or the list of closed terminals is refused.
+fn refused(refusal: Refusal, path: &str, closed: &str, terminals: u16) -> ! {
     let what = match refusal {
         Refusal::NoStack => "STACK",
         Refusal::SecondShort => "SECOND",
-        Refusal::BadClosed => {
-            fail(format!("TERMINALS: refused 50: the table has terminals below {terminals}, and 0 cannot be closed"))
-        }
+        Refusal::BadClosed if terminals == 1 => fail(format!("--closed {closed}: refused 50: nothing can be closed")),
+        Refusal::BadClosed => fail(format!("--closed {closed}: refused 50: only 1 to {} can be closed", terminals - 1)),
         _ => path,
     };
     fail(format!("{what}: {refusal}"))
@@ -101,7 +101,8 @@ fn line_of_terminals(line: &[u8]) -> Option<Vec<u8>> {
 fn main() {
     let mut args: Vec<String> = std::env::args_os().map(|a| a.to_string_lossy().into_owned()).collect();
     let restricted = args.len() > 2 && args[1] == "--closed";
-    let closed = restricted.then(|| closed_word(&args.drain(1..3).nth(1).unwrap()));
+    let list_of_closed = restricted.then(|| args.drain(1..3).nth(1).unwrap());
+    let closed = list_of_closed.as_deref().map(closed_word);
     let limits = limits(&args);
     let path = &args[1];
     let text = std::fs::read(path).unwrap_or_else(|e| fail(format!("{path}: {e}")));
@@ -115,7 +116,7 @@ fn main() {
         (answer, show(answer, input, closed.unwrap_or(0), &table, &stack, &list))
     };
     if let (Answer::Refused { refusal }, _) = read(&[], 0) {
-        refused(refusal, path, table[1]);
+        refused(refusal, path, &list_of_closed.unwrap_or_default(), table[1]);
     }
     let mut out = std::io::BufWriter::new(std::io::stdout().lock());
     for (k, line) in std::io::stdin().lock().split(b'\n').enumerate() {

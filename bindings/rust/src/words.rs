@@ -57,6 +57,7 @@ impl Answer {
     }
 }
 
+/// The answer in words. It does not know the word of closed terminals: `wrong at` is said of a closed one, too.
 impl fmt::Display for Answer {
     fn fmt(&self, f: &mut fmt::Formatter) -> fmt::Result {
         match self {
@@ -64,7 +65,8 @@ impl fmt::Display for Answer {
             Answer::Refused { refusal } => write!(f, "{refusal}"),
             Answer::NoAction { position, expected, counts, .. } => {
                 write!(f, "wrong at {position}: steps {}, expected", counts.steps)?;
-                (0..64).filter(|m| expected >> m & 1 == 1).try_for_each(|m| write!(f, " {m}"))
+                (0..64).filter(|m| expected >> m & 1 == 1).try_for_each(|m| write!(f, " {m}"))?;
+                f.write_str(if *expected == 0 { " nothing" } else { "" })
             }
             Answer::ExpectedUnknown { position, counts } => {
                 write!(f, "wrong at {position}: steps {}, expected unknown (46)", counts.steps)

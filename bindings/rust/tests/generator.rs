@@ -223,11 +223,11 @@ fn closed_terminals_are_wrong_where_they_stand() {
     let refused = "refused 50: bad word of closed terminals";
     let all = [
         (said(&[2, 1], 2, 9, 9), 31, "wrong at 1: steps 1, expected 0"),
-        (said(&[2, 1], 4, 9, 9), 31, "wrong at 0: steps 0, expected"),
+        (said(&[2, 1], 4, 9, 9), 31, "wrong at 0: steps 0, expected nothing"),
         (said(&[2], 2, 9, 9), 0, "accepted: steps 3, listed 1"),
         (said(&[2, 2], 2, 9, 9), 31, "wrong at 1: steps 1, expected 0"),
         (said(&[2, 1], 2, 9, 1), 46, "wrong at 1: steps 1, expected unknown (46)"),
-        (said(&[2], 4, 1, 0), 31, "wrong at 0: steps 0, expected"),
+        (said(&[2], 4, 1, 0), 31, "wrong at 0: steps 0, expected nothing"),
         (said(&[2], 2, 1, 9), 33, "stopped 33: steps 0, stack 1, listed 0"),
         (said(&[2, 1], 1, 9, 9), 50, refused),
         (said(&[2, 1], 8, 9, 9), 50, refused),
