@@ -10,7 +10,7 @@ use lib.Dec.{ltb, eqb}
 use borrow.Author.Tests.{lt-ltb, le-ltb, eq-eqb, eqb-true}
 use native.Mathlib.Omega.{arith}
 use native.Mathlib.Decide.{decLt, ℕ-discrete}
-use Rattle.sets.specs.Bit.{bit, Has}
+use Rattle.sets.specs.Bit.{Has}
 use Rattle.sets.specs.Tests.{allBelow}
 use Rattle.sets.proofs.TestLaws.{all-at, all-true}
 use Rattle.tables.specs.Layout.{terminals, leftOf, lengthOf, accept, cellOf}
@@ -240,11 +240,6 @@ way (shifts _ _) = found
 way (stops _ _ w s) = way-of w s
 way (reads w s) = way-of w s
 
-pub cut-some : {n : ℕ} → Cut n → n ≢ 0
-cut-some no-steps-left e = omega arith
-cut-some no-place-left e = omega arith
-cut-some broken-off e = omega arith
-
 pub cut-other : {n : ℕ} → Cut n → n ≢ 31
 cut-other no-steps-left e = omega arith
 cut-other no-place-left e = omega arith
@@ -266,31 +261,7 @@ offer-same {v = v} {w} p q = same-members v w (λ m. (λ h. q .members m .1 (p .
 pub offer-whole : {t line : List ℕ} {a k w : ℕ} → Offer t a k line w → CutShort t a k line → ⊥
 offer-whole p c = p .uncut (c .terminal) (c .number) (c .below) (c .ends) (c .cut)
 
--- each terminal is offered or wrong
-pub record Decided (t : List ℕ) (limit second : ℕ) (line : List ℕ) (word : ℕ) : Type 0 where
-  pub offered : (m : ℕ) → Has word m → (m < terminals t) × Explored t limit second line m 0
-  pub left-out : (m : ℕ) → m < terminals t → (Has word m → ⊥) → Explored t limit second line m 31
-
 module _ {t line : List ℕ} {a k : ℕ} (ch : Checked t) (ok : inputOk t line ≡ true) (some : 0 < k) where
-  same : {m i j : ℕ} → m < terminals t → Explored t a k line m i → Explored t a k line m j → i ≡ j
-  same h v w = explored-same t line a k ch ok some h v w
-
-  pub decided-offer : {word : ℕ} → Decided t a k line word → Offer t a k line word
-  decided-offer {word} d = record { members = λ m. (d .offered m, λ z. back m (z .0) (z .1) (bit word m) refl); uncut = λ m n h e c. whole m n h e c (bit word m) refl }
-    where
-      out : (m : ℕ) → bit word m ≡ false → Has word m → ⊥
-      out m e h = true-false h e
-
-      back : (m : ℕ) → m < terminals t → Explored t a k line m 0 → (b : Bool) → bit word m ≡ b → Has word m
-      back m h e true z = z
-      back m h e false z = let y = same h e (d .left-out m h (out m z)) in absurd (omega arith)
-
-      whole : (m n : ℕ) → m < terminals t → Explored t a k line m n → Cut n → (b : Bool) → bit word m ≡ b → ⊥
-      whole m n h e c true z = cut-some c (same h e (d .offered m z .1))
-      whole m n h e c false z = cut-other c (same h e (d .left-out m h (out m z)))
-
-  -- ---- computed
-
   number : {m n : ℕ} → m < terminals t → Explored t a k line m n → freshNumber t a k line m ≡ n
   number h e = explored-is t line a k ch ok some h e
 
