@@ -1,67 +1,72 @@
--- Demand 3 for the reader, proved for every table that means the grammar.
-use Prim.Native.Nat.{ℕ, _<_}
-use mathlib.Core.Path.{_≡_, refl, ap, _∙_}
+-- Demand 3 for the publisher's reading, proved for every table that means the grammar: it is a choir's reading with no terminal closed.
+use Prim.Native.Nat.{ℕ}
+use mathlib.Core.Path.{_≡_, refl}
+use mathlib.Core.Logic.{_≢_}
 use mathlib.Core.List.{List}
 use lib.ListN.{length}
 use native.Mathlib.Omega.{arith}
-use Rattle.grammar.specs.Grammar.{Grammar, Formed, Symbols, Sentence}
+use Rattle.grammar.specs.Grammar.{Grammar, Formed}
 use Rattle.lr.proofs.ItemLaws.{AllProductive}
-use Rattle.lr.proofs.ErrorPosition.{Begins, ErrorPosition}
-use Rattle.sets.specs.Bit.{bit, count}
-use Rattle.machine.specs.Checks.{refusalOf, Refusal}
+use Rattle.lr.proofs.ErrorPosition.{ErrorPosition}
+use Rattle.sets.proofs.HasLaws.{has-none}
+use Rattle.machine.specs.Checks.{Refusal, of-table, RestrictedRefusal, as-ever, closed-wrong}
+use Rattle.machine.specs.Stops.{Allowed, Stops}
+use Rattle.machine.specs.Reads.{Reads, refuses, reads}
 use Rattle.machine.specs.ComputedRun.{reading}
-use Rattle.machine.proofs.ReportLaws.{Reading, numberOf, positionOf, expectedOf, shown-is, Located, Faithful, number-is, located-at, position-is, productions-are}
-use Rattle.machine.proofs.ReadsLaws.{faithful, refused-is}
+use Rattle.machine.proofs.LrMachineLaws.{Config}
+use Rattle.machine.proofs.ReportLaws.{Reading, numberOf, shown-is, number-is}
+use Rattle.machine.proofs.RefusalLaws.{refusal-number}
+use Rattle.machine.proofs.ReadsLaws.{reads-some}
+use Rattle.machine.proofs.RestrictedLaws.{restricted-none}
 pub use Rattle.claim.specs.Claim.{Settled, Demand3}
 use Rattle.claim.specs.TrueOffer.{TrueOffer}
+use Rattle.claim.specs.RestrictedClaim.{RestrictedSettled, RestrictedPosition, at-closed, elsewhere, RestrictedOffer, RestrictedDemand3}
 use Rattle.claim.proofs.Means.{Limits, TableMeans}
-use Rattle.claim.proofs.Refusals.{refusals}
-use Rattle.claim.proofs.Endings.{end-is, ended}
-use Rattle.claim.proofs.Offers.{true-offer}
-use Rattle.claim.proofs.Answers.{Reader, SettledAs, Answers, Offers, offered, refusal, answers, Asked, stopped, passed, asked}
+use Rattle.claim.proofs.RestrictedClaims.{restricted-demand-3}
 
--- the reader of a publisher
-abbrev publisher : (g : Grammar) (l : List ℕ) → Reader l
-publisher g l = record { refuses = Refusal; good = Sentence g l; place = ErrorPosition g l; end = Begins g l × (Sentence g l → ⊥); end-is = end-is g l; offer = TrueOffer g }
+-- ---- the word 0 closes nothing
 
-demand-of : {g : Grammar} {l : List ℕ} {r : Reading} → Answers g l (publisher g l) r → Demand3 g l r
-demand-of {g} {l} {r} a =
-    record {
-      table-taken = a .table-taken;
-      never-breaks = a .never-breaks;
-      accepts = λ s. a .accepts (settled s);
-      derivation = a .derivation;
-      only = a .only;
-      names-position = λ s. a .names-position (settled s);
-      names-end = λ s. a .names-end (settled s);
-      offers = a .offers;
-      offers-many = a .offers-many;
-    }
+none-place : {g : Grammar} {l : List ℕ} {i : ℕ} → RestrictedPosition g 0 l i → ErrorPosition g l i
+none-place (at-closed f _) = absurd (has-none _ (f .there))
+none-place (elsewhere _ p) = p
+
+none-offer : {g : Grammar} {line : List ℕ} {word : ℕ} → RestrictedOffer g 0 line word → TrueOffer g line word
+none-offer o = record { followers = λ m z. (λ h. o .followers m z .0 h .1, λ b. o .followers m z .1 (has-none m, b)); end = o .end }
+
+none-settled : {n : ℕ} → n ≢ 50 → Settled n → RestrictedSettled n
+none-settled {n} ne s = record { taken = λ h. taken h refl; steps-left = s .steps-left; stack-left = s .stack-left; list-left = s .list-left }
   where
-    settled : {n : ℕ} → Settled n → SettledAs Refusal n
-    settled s = record { taken = s .taken; steps-left = s .steps-left; stack-left = s .stack-left; list-left = s .list-left }
+    taken : {i : ℕ} → RestrictedRefusal i → n ≢ i
+    taken (as-ever h) e = s .taken (rw e h)
+    taken closed-wrong e = ne e
+
+none-demand : {g : Grammar} {l : List ℕ} {r : Reading} → numberOf r ≢ 50 → RestrictedDemand3 g 0 l r → Demand3 g l r
+none-demand ne d =
+    record {
+      table-taken = d .table-taken;
+      never-breaks = d .never-breaks;
+      accepts = λ s. let z = d .accepts (none-settled ne s) in (λ e. z .0 e .0, λ h. z .1 (h, λ i _. has-none _));
+      derivation = d .derivation;
+      only = d .only;
+      names-position = λ s e. let z = d .names-position (none-settled ne s) e in (z .0, none-place (z .1));
+      names-end = λ s e. let z = d .names-end (none-settled ne s) e in (λ h. let w = z .0 h in (w .1, w .2), λ h. z .1 (λ i _. has-none _, h .0, h .1));
+      offers = λ e. none-offer (d .offers e);
+      offers-many = d .offers-many;
+    }
+
+-- ---- the publisher's reading never answers 50
+
+no-refusal : {n : ℕ} → Refusal n → n ≢ 50
+no-refusal h e = elim (rw e at h) [ of-table k ↦ elim k [ ] ]
+
+no-stop : {t : List ℕ} {a : Allowed} {c : Config} {n : ℕ} → Stops t a c n → n ≢ 50
+no-stop h e = elim (rw e at h) [ ]
+
+not-50 : {t l st la se : List ℕ} {a : ℕ} {r : Reading} → Reads t l st la se a r → numberOf r ≢ 50
+not-50 {t} {l} {st} {la} {se} (refuses e ne) z = no-refusal (rw e at (refusal-number t l (length st) (length se) (rw e ne))) z
+not-50 (reads _ f) z = no-stop (f .why) (shown-is (number-is f) z (λ e. omega arith))
 
 module _ (g : Grammar) (f : Formed g) (pr : AllProductive g) (li : Limits g) (t : List ℕ) (tm : TableMeans g t) where
-  -- the offer of a faithful reading is the grammar's
-  module _ {l st la se : List ℕ} {a : ℕ} {r : Reading} (m : Symbols g.terminals l) (h : 0 < length se) (fd : Faithful t l st la se a r) where
-    at : numberOf r ≡ 31 → Located t l a (length se) (fd .ahead) (r .report)
-    at e = located-at fd (shown-is (number-is fd) e (λ z. omega arith))
-
-    offers-of : Offers g l (publisher g l) r
-    offers-of =
-        record {
-          offers = λ e. let z = at e in offered g l (publisher g l) r (z .line) (fd .ahead) (z .whole) (z .place) m (λ s. true-offer g f pr li t tm s h (z .offer e .0));
-          many = λ e. at e .offer e .1 ∙ ap (count (bit (expectedOf r))) tm.terminals-are;
-        }
-
   -- the claim
   pub demand-3 : (l st la se : List ℕ) (a : ℕ) → Demand3 g l (reading t l st la se a)
-  demand-3 l st la se a = demand-of (go (asked g f pr li t tm (refusals g f pr li t tm l (length st) (length se))) refl)
-    where
-      read : {r : Reading} → Symbols g.terminals l → 0 < length se → Faithful t l st la se a r → Answers g l (publisher g l) r
-      read {r} m h fd =
-          answers g l (publisher g l) r (number-is fd) refl (productions-are fd) (ended g f pr li t tm m (fd .path) (fd .why) (positionOf r) (position-is fd)) (offers-of m h fd)
-
-      go : {n : ℕ} → Asked g f pr li t tm l (length st) (length se) n → refusalOf t l (length st) (length se) ≡ n → Answers g l (publisher g l) (reading t l st la se a)
-      go {n} (stopped h p) e = refusal g l (publisher g l) (reading t l st la se a) (ap numberOf (refused-is t l st la se a n e (p .no-accept))) p h
-      go (passed m k s) e = read m (omega arith) (faithful t l st la se a e)
+  demand-3 l st la se a = none-demand (not-50 (reads-some t l st la se a)) (rw restricted-none at (restricted-demand-3 g f pr li t tm 0 l st la se a))

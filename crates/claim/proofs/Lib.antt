@@ -5,6 +5,6 @@ pub mod Follow
 pub mod Endings
 pub mod Offers
 pub mod Answers
-pub mod ClaimLaws
 pub mod RestrictedClaims
+pub mod ClaimLaws
 pub mod Delivered
