@@ -1,6 +1,6 @@
 -- Demand 3 for the publisher's reading, proved for every table that means the grammar: it is a choir's reading with no terminal closed.
 use Prim.Native.Nat.{ℕ}
-use mathlib.Core.Path.{_≡_, refl}
+use mathlib.Core.Path.{refl, _∙_}
 use mathlib.Core.Logic.{_≢_}
 use mathlib.Core.List.{List}
 use lib.ListN.{length}
@@ -9,11 +9,9 @@ use Rattle.grammar.specs.Grammar.{Grammar, Formed}
 use Rattle.lr.proofs.ItemLaws.{AllProductive}
 use Rattle.lr.proofs.ErrorPosition.{ErrorPosition}
 use Rattle.sets.proofs.HasLaws.{has-none}
-use Rattle.machine.specs.Checks.{Refusal, of-table, RestrictedRefusal, as-ever, closed-wrong}
-use Rattle.machine.specs.Stops.{Allowed, Stops}
+use Rattle.machine.specs.Checks.{of-table, RestrictedRefusal, as-ever, closed-wrong}
 use Rattle.machine.specs.Reads.{Reads, refuses, reads}
 use Rattle.machine.specs.ComputedRun.{reading}
-use Rattle.machine.proofs.LrMachineLaws.{Config}
 use Rattle.machine.proofs.ReportLaws.{Reading, numberOf, shown-is, number-is}
 use Rattle.machine.proofs.RefusalLaws.{refusal-number}
 use Rattle.machine.proofs.ReadsLaws.{reads-some}
@@ -56,15 +54,9 @@ none-demand ne d =
 
 -- ---- the publisher's reading never answers 50
 
-no-refusal : {n : ℕ} → Refusal n → n ≢ 50
-no-refusal h e = elim (rw e at h) [ of-table k ↦ elim k [ ] ]
-
-no-stop : {t : List ℕ} {a : Allowed} {c : Config} {n : ℕ} → Stops t a c n → n ≢ 50
-no-stop h e = elim (rw e at h) [ ]
-
 not-50 : {t l st la se : List ℕ} {a : ℕ} {r : Reading} → Reads t l st la se a r → numberOf r ≢ 50
-not-50 {t} {l} {st} {la} {se} (refuses e ne) z = no-refusal (rw e at (refusal-number t l (length st) (length se) (rw e ne))) z
-not-50 (reads _ f) z = no-stop (f .why) (shown-is (number-is f) z (λ e. omega arith))
+not-50 {t} {l} {st} {la} {se} (refuses e ne) z = elim (rw (e ∙ z) at (refusal-number t l (length st) (length se) (rw e ne))) [ of-table k ↦ elim k [ ] ]
+not-50 (reads _ f) z = elim (rw (shown-is (number-is f) z (λ e. omega arith)) at (f .why)) [ ]
 
 module _ (g : Grammar) (f : Formed g) (pr : AllProductive g) (li : Limits g) (t : List ℕ) (tm : TableMeans g t) where
   -- the claim

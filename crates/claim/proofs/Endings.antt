@@ -27,13 +27,13 @@ end-is g l i (at-terminal h b n) = (
 )
 end-is g l i (at-end e b n) = (λ _. (b, n), λ _. e)
 
--- how a run that was not refused ends: good is what an accepted input is, place what is said of the place named
-pub data Ended (g : Grammar) (l : List ℕ) (good place : Type 0) (p : List ℕ) : ℕ → Type 0 where
-  sentence : good → Rightmost g (g.terminals ∷ []) (reverse p) l → ((q : List ℕ) → Rightmost g (g.terminals ∷ []) q l → q ≡ reverse p) → Ended g l good place p 0
-  no-sentence : (good → ⊥) → place → Ended g l good place p 31
-  out-32 : Ended g l good place p 32
-  out-33 : Ended g l good place p 33
-  out-34 : Ended g l good place p 34
+-- how a run that was not refused ends, the productions p being listed, and the place i named where the input is wrong
+pub data Ended (g : Grammar) (l : List ℕ) (i : ℕ) (p : List ℕ) : ℕ → Type 0 where
+  sentence : Sentence g l → Rightmost g (g.terminals ∷ []) (reverse p) l → ((q : List ℕ) → Rightmost g (g.terminals ∷ []) q l → q ≡ reverse p) → Ended g l i p 0
+  no-sentence : (Sentence g l → ⊥) → ErrorPosition g l i → Ended g l i p 31
+  out-32 : Ended g l i p 32
+  out-33 : Ended g l i p 33
+  out-34 : Ended g l i p 34
 
 module _ (g : Grammar) (f : Formed g) (pr : AllProductive g) (li : Limits g) (t : List ℕ) (tm : TableMeans g t) where
   -- a path from the start over input l, as a run along a path γ of the grammar
@@ -54,10 +54,10 @@ module _ (g : Grammar) (f : Formed g) (pr : AllProductive g) (li : Limits g) (t 
             let eo : p ≡ out = cc in
             record { γ = γ′; run = rw (ex, eo) at s; viable = v; terminals = rw ex at mx; stack = cc }
 
-    pub ended : {a : Allowed} {n : ℕ} → Stops t a (conf qs x out) n → (i : ℕ) → (n ≡ 31 → i + length x ≡ length l) → Ended g l (Sentence g l) (ErrorPosition g l i) out n
+    pub ended : {a : Allowed} {n : ℕ} → Stops t a (conf qs x out) n → (i : ℕ) → (n ≡ 31 → i + length x ≡ length l) → Ended g l i out n
     ended {a} w i hi = finish along hi w
       where
-        finish : {qs x out : List ℕ} → Along l qs x out → {n : ℕ} → (n ≡ 31 → i + length x ≡ length l) → Stops t a (conf qs x out) n → Ended g l (Sentence g l) (ErrorPosition g l i) out n
+        finish : {qs x out : List ℕ} → Along l qs x out → {n : ℕ} → (n ≡ 31 → i + length x ≡ length l) → Stops t a (conf qs x out) n → Ended g l i out n
         finish s ei (accepted-here h _) =
             let a = accepted g f (act g f pr li t tm) (tab g f pr li t tm) m (s .run) (ends-accept g f pr li t tm (s .γ) (s .terminals) (s .stack) h refl) in
             sentence (a .sentence) (a .derivation) (a .only)

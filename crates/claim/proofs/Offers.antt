@@ -2,22 +2,21 @@
 -- line and terminal begin a sentence, and the line is accepted just where it is one.
 use Prim.Native.Nat.{ℕ, _+_, _-_, _<_}
 use mathlib.Core.Path.{_≡_, refl}
-use mathlib.Core.Logic.{_≢_, _↔_, Iff·trans}
+use mathlib.Core.Logic.{_≢_, _↔_}
 use mathlib.Core.List.{List, [], _∷_, _++_, append-nil, append-assoc}
 use lib.ListN.{length}
 use native.Mathlib.Omega.{arith}
 use Rattle.grammar.specs.Grammar.{Grammar, Formed, Symbols, none, more, Sentence}
 use Rattle.grammar.proofs.Yield.{symbols-append, symbols-back}
 use Rattle.lr.proofs.ItemLaws.{AllProductive}
-use Rattle.lr.proofs.ErrorPosition.{Begins, ErrorPosition}
+use Rattle.lr.proofs.ErrorPosition.{Begins}
 use Rattle.tables.specs.Layout.{terminals}
-use Rattle.machine.specs.Exploration.{Comes, unlisted, Explored, shifts, stops, reads, Cut, Offer}
+use Rattle.machine.specs.Exploration.{Comes, unlisted, Explored, shifts, stops, reads, Cut}
 use Rattle.machine.specs.Restricted.{Open, OpenOffer}
 use Rattle.machine.proofs.LrMachineLaws.{conf}
 use Rattle.machine.proofs.ReportLaws.{Stops}
 use Rattle.machine.proofs.Settles.{path-unread}
 use Rattle.machine.proofs.Explorations.{some-long, ends-somehow, Way, found, wrong, cut-off, way}
-use Rattle.claim.specs.TrueOffer.{TrueOffer}
 use Rattle.claim.specs.RestrictedClaim.{RestrictedOffer}
 use Rattle.claim.proofs.Means.{Limits, TableMeans}
 use Rattle.claim.proofs.Endings.{Ended, sentence, no-sentence, out-32, out-33, out-34, ended, read-begins, end-is}
@@ -73,7 +72,7 @@ module _ (g : Grammar) (f : Formed g) (pr : AllProductive g) (li : Limits g) (t 
     says : {n : ℕ} → Stops t (unlisted limit second left) (conf qs x out) n → Says g l x n
     says w = go (ended g f pr li t tm sl (c .path) w (length l - length x) (λ _. omega (arith, path-unread t (c .path))))
       where
-        go : {n : ℕ} → Ended g l (Sentence g l) (ErrorPosition g l (length l - length x)) out n → Says g l x n
+        go : {n : ℕ} → Ended g l (length l - length x) out n → Says g l x n
         go (sentence s _ _) = record { accepted = λ _. s; not-accepted = λ e. absurd (omega arith); not-begun = λ e. absurd (omega arith); not-broken = λ e. omega arith }
         go (no-sentence s p) =
             record {
@@ -144,11 +143,7 @@ module _ (g : Grammar) (f : Formed g) (pr : AllProductive g) (li : Limits g) (t 
       pub finish : Uncut t limit second line 0 → ((0 < terminals t) × Explored t limit second line 0 0) ↔ Sentence g line
       finish u = (λ p. accepted-sentence (p .1), λ s. (above f.end-marker, explores h (above f.end-marker) u (λ x. wrong-sentence-none x s)))
 
-      -- the offer is the grammar's
-      pub true-offer : {word : ℕ} → Offer t limit second line word → TrueOffer g line word
-      true-offer o = record { followers = λ m z. Iff·trans (o .members m) (follower z (λ b n. o .uncut m n b)); end = Iff·trans (o .members 0) (finish (λ b n. o .uncut 0 n b)) }
-
-      -- "and leaves closed marks out of offers"
+      -- the offer is the grammar's, "and leaves closed marks out of offers"
       pub restricted-offer : {closed word : ℕ} → Open closed 0 → OpenOffer t closed limit second line word → RestrictedOffer g closed line word
       restricted-offer {closed} {word} c o =
           record {
