@@ -1,6 +1,6 @@
 -- What fresh readings say of the grammar: over a table that means it, where no limit cuts the reading short, a terminal is shifted behind a line just where
 -- line and terminal begin a sentence, and the line is accepted just where it is one.
-use Prim.Native.Nat.{ℕ, _+_, _-_, _<_}
+use Prim.Native.Nat.{ℕ, _-_, _<_}
 use mathlib.Core.Path.{_≡_, refl}
 use mathlib.Core.Logic.{_≢_, _↔_}
 use mathlib.Core.List.{List, [], _∷_, _++_, append-nil, append-assoc}

@@ -1,5 +1,5 @@
 -- Demand 3 for a choir's reading, proved for every table that means the grammar.
-use Prim.Native.Nat.{ℕ, zero, suc, _+_, _<_}
+use Prim.Native.Nat.{ℕ, suc, _+_, _<_}
 use mathlib.Core.Path.{_≡_, refl, sym, ap, _∙_}
 use mathlib.Core.Logic.{_≢_}
 use mathlib.Core.Bool.{Bool, true, false}
@@ -12,15 +12,16 @@ use Rattle.lr.proofs.ItemLaws.{AllProductive}
 use Rattle.lr.proofs.ErrorPosition.{Begins, take-append-one}
 use Rattle.sets.specs.Bit.{bit, Has, count}
 use Rattle.sets.specs.Lists.{peek}
-use Rattle.sets.specs.Tests.{unless, firstRefusal}
+use Rattle.sets.specs.Tests.{unless}
 use Rattle.tables.specs.Layout.{terminals}
 use Rattle.machine.specs.Checks.{refusalOf, closedOk, restrictedRefusal, RestrictedRefusal, as-ever, closed-wrong}
 use Rattle.machine.specs.Stops.{Allowed}
 use Rattle.machine.specs.Restricted.{Open, OpenLine, FirstClosed, OpenPath, OpenStops, OpenOffer, OpenReports, counts, expects, unknown, RestrictedFaithful}
-use Rattle.machine.specs.Report.{Report, numbersOf}
+use Rattle.machine.specs.Report.{Report}
 use Rattle.machine.specs.ComputedRun.{restrictedReading}
 use Rattle.machine.proofs.LrMachineLaws.{conf}
-use Rattle.machine.proofs.ReportLaws.{Reading, numberOf, positionOf, productionsOf, expectedOf, Shown, as-is, in-place, shown-is}
+use Rattle.machine.proofs.ReportLaws.{Reading, numberOf, positionOf, productionsOf, expectedOf, part, Shown, as-is, in-place, shown-is}
+use Rattle.machine.proofs.RefusalLaws.{first-is}
 use Rattle.machine.proofs.MaskedLaws.{open-end}
 use Rattle.machine.proofs.OpenPaths.{open-behind, passes-open, open-forget}
 use Rattle.machine.proofs.RestrictedLaws.{line-taken, restricted-faithful, restricted-refused}
@@ -37,9 +38,6 @@ symbols-front [] v m = none
 symbols-front (a ∷ u) v (more h k m) = more h k (symbols-front u v m)
 
 -- ---- the report
-
-abbrev part : Report → ℕ → ℕ
-part r i = getD (numbersOf r) i 0
 
 -- the line before the position, and what is ahead, are the input
 record Located (t : List ℕ) (closed : ℕ) (l : List ℕ) (a k : ℕ) (x : List ℕ) (r : Report) : Type 0 where
@@ -65,11 +63,7 @@ reported (unknown u e s) = record { number = in-place; listed = refl; located = 
 module _ (t : List ℕ) (closed : ℕ) (l : List ℕ) (n k : ℕ) where
   refused-as-ever : {i : ℕ} → refusalOf t l n k ≡ i → i ≢ 0 → restrictedRefusal t closed l n k ≡ i
   unfolding restrictedRefusal
-  refused-as-ever {i} e h = rw e (go i h)
-    where
-      go : (i : ℕ) → i ≢ 0 → firstRefusal i (unless (closedOk t closed) 50 0) ≡ i
-      go zero h = absurd (h refl)
-      go (suc i) h = refl
+  refused-as-ever e h = first-is _ e h
 
   refused-closed : {b : Bool} → refusalOf t l n k ≡ 0 → closedOk t closed ≡ b → restrictedRefusal t closed l n k ≡ unless b 50 0
   unfolding restrictedRefusal

@@ -113,7 +113,7 @@ unfolding inputRefusal
 long-input t l h = rw (lt-leb (length l) 65535 h)
 
 -- a refusal is no 0, so none behind it comes
-first-is : {m i : ℕ} (x : ℕ) → m ≡ i → i ≢ 0 → firstRefusal m x ≡ i
+pub first-is : {m i : ℕ} (x : ℕ) → m ≡ i → i ≢ 0 → firstRefusal m x ≡ i
 first-is {m = zero} x e n = absurd (n (sym e))
 first-is {m = suc m} x e n = e
 
