@@ -13,11 +13,11 @@ use Rattle.machine.specs.Exploration.{Explored}
 use Rattle.machine.specs.Report.{Reading}
 use Rattle.machine.specs.Faithful.{Faithful}
 use Rattle.machine.specs.Reads.{Reads}
-use Rattle.machine.specs.Restricted.{OpenLine, FirstClosed, RestrictedReads}
+use Rattle.machine.specs.Restricted.{OpenLine, FirstClosed, RestrictedFaithful, RestrictedReads}
 use Rattle.machine.specs.Compared.{EndsAlike, EndsBy}
 use Rattle.machine.specs.ComputedRun.{reading, restrictedReading}
 use Rattle.machine.proofs.ReadsLaws.{faithful, reads-exactly}
-use Rattle.machine.proofs.RestrictedLaws.{restricted-exactly}
+use Rattle.machine.proofs.RestrictedLaws.{restricted-faithful, restricted-exactly}
 use Rattle.machine.proofs.ComparedLaws.{first-closed, ends-alike, ends-by}
 use Rattle.lalr.specs.Answer.{numbersOf, Generated}
 use Rattle.lalr.specs.ComputedGenerator.{generated}
@@ -81,6 +81,11 @@ demand-1-restricted t closed input stack list second limit = restricted-exactly 
 pub only-restricted : (t : List ℕ) (closed : ℕ) (input stack list second : List ℕ) (limit : ℕ) (r : Reading) → RestrictedReads t closed input stack list second limit r
     → r ≡ restrictedReading t closed input stack list second limit
 only-restricted t closed input stack list second limit r d = restricted-exactly t closed input stack list second limit r .0 d
+
+-- Demand 2: where nothing is refused the reader makes the moves of the LR machine, each while the next terminal is open, and its count is their number
+pub demand-2-restricted : (t : List ℕ) (closed : ℕ) (input stack list second : List ℕ) (limit : ℕ) → restrictedRefusal t closed input (length stack) (length second) ≡ 0
+    → RestrictedFaithful t closed input stack list second limit (restrictedReading t closed input stack list second limit)
+demand-2-restricted t closed input stack list second limit e = restricted-faithful t closed input stack list second limit e
 
 -- Where nothing is refused: "A choir's line without closed marks ends just as a publisher's does, apart from the offer and from a 46 that only a closed mark
 -- caused."
