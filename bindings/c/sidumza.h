@@ -20,7 +20,7 @@ enum {
     SIDUMZA_DEPTH,          /* stack places in use */
     SIDUMZA_LISTED,         /* productions listed */
     SIDUMZA_POSITION,       /* 31 and 46: the position, from 0; at the end it is the input's length */
-    SIDUMZA_EXPECTED,       /* 31: a word with bit m set for each terminal m that can follow, bit 0 for the end */
+    SIDUMZA_EXPECTED,       /* 31: a word with a bit for each terminal that can follow and is not closed, bit 0 for the end */
     SIDUMZA_EXPECTED_COUNT, /* 31: how many terminals are expected */
     SIDUMZA_OUT             /* the number of places */
 };
@@ -191,7 +191,7 @@ void sidumza_parse(const uint16_t *table, size_t table_len, const uint8_t *input
  *
  * What to lend and what a call costs: as for sidumza_parse. The first closed terminal is looked for once, before the first
  * step: less than 0.05 nanoseconds a terminal where no terminal of the input lies between the lowest and the highest closed
- * one, else up to some 0.4 (bench/reader/closed.sh).
+ * one, else up to some 0.4; and with any word but 0 some 5 to 10 nanoseconds a call (bench/reader/closed.sh).
  */
 void sidumza_parse_restricted(const uint16_t *table, size_t table_len, const uint8_t *input, size_t input_len,
                               uint64_t closed, uint16_t *stack, size_t stack_len, uint16_t *list, size_t list_len,

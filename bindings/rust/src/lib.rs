@@ -60,7 +60,7 @@ pub enum Answer {
     /// 21 to 27, 44, 45 or 50.
     Refused { refusal: Refusal },
     /// 31: no action for the terminal at `position`, or it is closed. Bit m of `expected` is set for each terminal m that
-    /// can follow the input before it (0: the end), `expected_count` of them.
+    /// can follow the input before it (0: the end) and is not closed, `expected_count` of them.
     NoAction { position: usize, expected: u64, expected_count: u32, counts: Counts },
     /// 32: as many steps made as allowed.
     StepLimit { counts: Counts },
