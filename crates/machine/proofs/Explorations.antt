@@ -6,21 +6,21 @@ use mathlib.Core.Bool.{Bool, true, false, _&&_}
 use mathlib.Core.List.{List, [], _∷_, _++_}
 use lib.ListN.{length, take, getD, replicate, length-append, length-replicate, List·getD-append}
 use lib.Seq.{length-take-le, getD-take, getD-append-seam}
-use lib.Dec.{ltb, eqb}
+use lib.Dec.{eqb}
 use borrow.Author.Tests.{lt-ltb, le-ltb, eq-eqb, eqb-true}
 use native.Mathlib.Omega.{arith}
 use native.Mathlib.Decide.{decLt, ℕ-discrete}
 use Rattle.sets.specs.Bit.{Has}
 use Rattle.sets.specs.Tests.{allBelow}
 use Rattle.sets.proofs.TestLaws.{all-at, all-true}
-use Rattle.tables.specs.Layout.{terminals, leftOf, lengthOf, accept, cellOf}
+use Rattle.tables.specs.Layout.{terminals}
 use Rattle.machine.specs.Checks.{inputOk, terminalOk}
 use Rattle.machine.specs.Stops.{Stops, accepted-here, wrong-here, no-steps, list-full, broken-here, stack-full}
 pub use Rattle.machine.specs.Exploration.{Comes, unlisted, Explored, shifts, stops, reads, Cut, no-steps-left, no-place-left, broken-off, Offer, CutShort}
-use Rattle.machine.specs.ComputedRun.{Machine, Next, ended, moved, accepted, topOf, actionOf, shifted, reducedTo, reduced, movedBy, Outcome, after, run, start, withNext, fresh, freshNumber, decided, expectedWord, wordOf}
+use Rattle.machine.specs.ComputedRun.{Machine, Next, ended, moved, accepted, actionOf, movedBy, Outcome, after, run, start, withNext, fresh, freshNumber, decided, expectedWord, wordOf}
 use Rattle.machine.proofs.Checked.{Checked, Passed}
-use Rattle.machine.proofs.LrMachineLaws.{Config, conf, depth, listed, Step, Path}
-use Rattle.machine.proofs.RunLaws.{either}
+use Rattle.machine.proofs.LrMachineLaws.{Config, conf, listed, Step, Path}
+use Rattle.machine.proofs.RunLaws.{either, step-each}
 use Rattle.machine.proofs.Settles.{unread, Settled, settles}
 use Rattle.machine.proofs.Areas.{Held, held, Leads, ends-at, atEnd, counted, held-start, follows}
 use Rattle.machine.proofs.Offers.{same-members, word-members}
@@ -67,19 +67,7 @@ OnFrom n (moved m) = n ≤ m .position
 OnFrom n (accepted m) = n ≤ m .position
 
 step-on : (t : List ℕ) (a : ℕ) (m : Machine) → OnFrom (m .position) (movedBy t a m)
-unfolding movedBy shifted reduced reducedTo
-step-on t a m =
-    let P : Next → Type 0 = OnFrom (m .position) in
-    let h : m .position ≤ m .position = omega arith in
-    let k : m .position ≤ m .position + 1 = omega arith in
-    either P (ltb a 1024) (λ _. either P (ltb (m .depth) (length (m .stack))) (λ _. k) (λ _. h))
-    (λ _. either P (eqb a accept) (λ _. h)
-    (λ _. either P (ltb (m .listed) (length (m .list)))
-    (λ _. either P (ltb (lengthOf t (a - 1024)) (m .depth))
-    (λ _. either P (eqb (cellOf t (topOf (m .stack) (m .depth - lengthOf t (a - 1024))) (leftOf t (a - 1024))) 0) (λ _. h)
-    (λ _. either P (ltb (m .depth - lengthOf t (a - 1024)) (length (m .stack))) (λ _. h) (λ _. h)))
-    (λ _. h))
-    (λ _. h)))
+step-on t a m = step-each (OnFrom (m .position)) t a m (λ n. omega arith) (λ m′ _ h. h) (λ m′ _ h. h)
 
 module _ (t l : List ℕ) where
   pub run-on : (k : ℕ) (m : Machine) → m .position ≤ run t l k m .final .position

@@ -12,7 +12,7 @@ use lib.Seq.{getD-set-same, getD-set-other}
 use lib.Dec.{ltb, eqb}
 use borrow.Author.Tests.{lt-ltb, le-ltb, eq-eqb, ne-eqb, ltb-true, ltb-false}
 use Rattle.sets.proofs.HasLaws.{lt-or-ge}
-use Rattle.tables.specs.Layout.{cellOf, lengthOf, leftOf}
+use Rattle.tables.specs.Layout.{accept, cellOf, lengthOf, leftOf}
 use Rattle.machine.specs.ComputedRun.{Machine, Next, ended, moved, accepted, popped, topOf, actionOf, shifted, reducedTo, reduced, movedBy, Outcome, after, run}
 use Rattle.machine.specs.RunTo.{actionTo, runTo}
 
@@ -182,3 +182,18 @@ module _ (t l : List ℕ) (m : Machine) where
   run-more k h e =
       sym (run-to-whole t l k m) ∙ run-to-more t l false m k h e
       ∙ after-both t l false (λ o p. o ≡ p) (λ o. refl) (λ e. absurd (false≢true e)) (k - 1) (run-to-whole t l (k - 1)) (movedBy t (actionOf t l m) m)
+
+-- whatever comes of a step: an end where it stands, or one step more with a position no less
+pub step-each : (P : Next → Type 0) (t : List ℕ) (a : ℕ) (m : Machine) → ((n : ℕ) → P (ended n m))
+    → ((m′ : Machine) → m′ .steps ≡ m .steps + 1 → m .position ≤ m′ .position → P (moved m′)) → ((m′ : Machine) → m′ .steps ≡ m .steps + 1 → m .position ≤ m′ .position → P (accepted m′))
+    → P (movedBy t a m)
+unfolding movedBy shifted reduced reducedTo
+step-each P t a m e f g =
+    either P (ltb a 1024) (λ _. either P (ltb (m .depth) (length (m .stack))) (λ _. f _ refl (omega arith)) (λ _. e 33))
+    (λ _. either P (eqb a accept) (λ _. g _ refl (omega arith))
+    (λ _. either P (ltb (m .listed) (length (m .list)))
+    (λ _. either P (ltb (lengthOf t (a - 1024)) (m .depth))
+    (λ _. either P (eqb (cellOf t (topOf (m .stack) (m .depth - lengthOf t (a - 1024))) (leftOf t (a - 1024))) 0) (λ _. e 35)
+    (λ _. either P (ltb (m .depth - lengthOf t (a - 1024)) (length (m .stack))) (λ _. f _ refl (omega arith)) (λ _. e 33)))
+    (λ _. e 35))
+    (λ _. e 34)))

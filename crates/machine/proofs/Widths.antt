@@ -4,23 +4,21 @@ use mathlib.Core.Path.{_≡_, refl, sym, ap, subst, _∙_}
 use mathlib.Core.Logic.{_≢_, _↔_}
 use mathlib.Core.List.{List}
 use lib.ListN.{length}
-use lib.Dec.{ltb, eqb}
 use borrow.Author.Tests.{ne-eqb}
 use native.Mathlib.Omega.{arith}
 use native.Mathlib.Nat.{mod-lt, mod-eq-of-lt}
 use lib.Pow.{pow-pos}
 use native.Mathlib.Decide.{ℕ-discrete}
-use Rattle.tables.specs.Layout.{leftOf, lengthOf, accept, cellOf}
 use Rattle.machine.specs.Checks.{refusalOf}
 use Rattle.machine.specs.Report.{Reading, stepsOf}
 use Rattle.machine.specs.Faithful.{Allowed, Stops, accepted-here, wrong-here, no-steps, list-full, broken-here, stack-full}
 use Rattle.machine.specs.Reads.{Reads, refuses, reads}
-use Rattle.machine.specs.ComputedRun.{Machine, Next, ended, moved, accepted, topOf, actionOf, movedBy, shifted, reduced, reducedTo, Outcome, after, run, start, reading}
+use Rattle.machine.specs.ComputedRun.{Machine, Next, ended, moved, accepted, actionOf, movedBy, Outcome, after, run, start, reading}
 use Rattle.machine.specs.Widths as widths
 use Rattle.machine.specs.Widths.{counting, RunsIn, wrong, spent, stops, accepts, goes-on, ReadsIn, OldLimits}
 use Rattle.machine.proofs.LrMachineLaws.{Config, own-steps}
 use Rattle.machine.proofs.ReportLaws.{count-is}
-use Rattle.machine.proofs.RunLaws.{either, run-wrong, run-none}
+use Rattle.machine.proofs.RunLaws.{step-each, run-wrong, run-none}
 use Rattle.machine.proofs.ReadsLaws.{unrefused, refused-is, reads-exactly}
 
 -- ---- no count passes its limit
@@ -55,17 +53,7 @@ Counts n (moved m) = m .steps ≡ n + 1
 Counts n (accepted m) = m .steps ≡ n + 1
 
 step-counts : (t : List ℕ) (a : ℕ) (m : Machine) → Counts (m .steps) (movedBy t a m)
-unfolding movedBy shifted reduced reducedTo
-step-counts t a m =
-    let P : Next → Type 0 = Counts (m .steps) in
-    either P (ltb a 1024) (λ _. either P (ltb (m .depth) (length (m .stack))) (λ _. refl) (λ _. tt))
-    (λ _. either P (eqb a accept) (λ _. refl)
-    (λ _. either P (ltb (m .listed) (length (m .list)))
-    (λ _. either P (ltb (lengthOf t (a - 1024)) (m .depth))
-    (λ _. either P (eqb (cellOf t (topOf (m .stack) (m .depth - lengthOf t (a - 1024))) (leftOf t (a - 1024))) 0) (λ _. tt)
-    (λ _. either P (ltb (m .depth - lengthOf t (a - 1024)) (length (m .stack))) (λ _. refl) (λ _. tt)))
-    (λ _. tt))
-    (λ _. tt)))
+step-counts t a m = step-each (Counts (m .steps)) t a m (λ n. tt) (λ m′ e _. e) (λ m′ e _. e)
 
 -- a is the limit as it is handed over
 module _ (w : ℕ) (t l : List ℕ) (a : ℕ) where

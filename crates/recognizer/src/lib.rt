@@ -21,14 +21,18 @@ pub fn recognize(
 ) -> Outcome
     ensures { λ r. ⌜ Recognizes (now (card .entry)) (now (input .entry)) «step_limit» (now (table .entry)) (now (words .entry)) (now (halves .entry)) (now (stack .entry)) (now (list .entry)) (now (second .entry)) r (now (table .exit)) (now (words .exit)) (now (halves .exit)) (now (stack .exit)) (now (list .exit)) (now (second .exit)) ⌝ }
 {
-    let a = generator::generate(card, table, words, halves);
-    match a {
-        generator::Answer::Table => {
-            let r = parser::parse(table, input, stack, list, second, step_limit);
-            Outcome::Read(r)
-        }
-        _ => Outcome::NoTable(a),
-    }
+    recognize_restricted(
+        card,
+        input,
+        0,
+        step_limit,
+        table,
+        words,
+        halves,
+        stack,
+        list,
+        second,
+    )
 }
 
 // The same for a choir: the reading is restricted by a word of closed terminals.

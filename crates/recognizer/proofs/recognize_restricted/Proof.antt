@@ -2,7 +2,7 @@
 use mathlib.Core.List.{[], _∷_}
 use types.Run.{miss}
 use borrow.Author.Needs.{needs}
-use Rattle.recognizer.proofs.Across.{refuses, reads-restricted}
+use Rattle.recognizer.proofs.Across.{refuses, reads}
 use Rattle.recognizer.proofs.recognize_restricted.Statement.{statement}
 use Rattle.recognizer.proofs.recognize_restricted.Tie as tie
 
@@ -11,7 +11,7 @@ returns c =
     let b6 = c .before .before .before .before .before .before in
     let b11 = b6 .before .before .before .before .before in
     let b19 = b11 .before .before .before .before .before .before .before .before in
-    reads-restricted _ _ _ _ (b19 .generate .ensures) (b11 .enum-told .given .1) _ _ _ _ _ _ (b6 .parse-restricted .ensures)
+    reads _ _ _ _ (b19 .generate .ensures) (b11 .enum-told .given .1) _ _ _ _ _ _ (b6 .parse-restricted .ensures)
 
 returns-2 : tie.Need-returns-2
 returns-2 c =
