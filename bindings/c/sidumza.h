@@ -190,8 +190,9 @@ void sidumza_parse(const uint16_t *table, size_t table_len, const uint8_t *input
  *   and 0 where that input is one. Any sentence counts: it may be that only closed terminals complete it.
  *
  * What to lend and what a call costs: as for sidumza_parse. The first closed terminal is looked for once, before the first
- * step: less than 0.05 nanoseconds a terminal where no terminal of the input lies between the lowest and the highest closed
- * one, else up to some 0.4; and with any word but 0 some 5 to 10 nanoseconds a call (bench/reader/closed.sh).
+ * step: too little to be told from the reading, some 0.1 nanoseconds a terminal at most, where no terminal of the input lies
+ * between the lowest and the highest closed one, else 0.2 to 0.5; and with any word but 0 some 5 to 10 nanoseconds a call
+ * (bench/reader/closed.sh).
  */
 void sidumza_parse_restricted(const uint16_t *table, size_t table_len, const uint8_t *input, size_t input_len,
                               uint64_t closed, uint16_t *stack, size_t stack_len, uint16_t *list, size_t list_len,
