@@ -1,10 +1,14 @@
 /* A page program: parses each line of standard input by the table of a file.
  *
- *   page TABLE [STEP_LIMIT [STACK [LIST [SECOND]]]]
+ *   page [--closed TERMINALS] TABLE [STEP_LIMIT [STACK [LIST [SECOND]]]]
  *
  * TABLE is a table as maketable prints it. A line is terminals in decimal; an empty line is the empty
  * input. Each line gets one line of answer. That of a wrong line names the symbols that the terminals before
  * the place were read as, those under which the states on the stack were entered, and the terminals that can follow there.
+ *
+ * TERMINALS, numbers up to 63 with commas between, are closed: the lines are read as a choir's, in which such a terminal
+ * is wrong (the answer begins with `closed` in place of `wrong`) and is never expected. The end marker 0, and what is no
+ * terminal of the table, cannot be closed (50): a message, and status 2. Without `--closed` the lines are a publisher's.
  *
  * STEP_LIMIT: up to 18446744073709551615; 1000000 where none is given. STACK, LIST and SECOND, in places: up to 16777216
  * each; 65536, 1000000 and STACK + 1 where none is given. Where no production is empty, 65536 and 65537 places of stack and
@@ -34,6 +38,7 @@ static const char *refusal(uint64_t number)
 {
     return number == SIDUMZA_BAD_ENTERED    ? "bad entering symbol in the table"
            : number == SIDUMZA_SECOND_SHORT ? "second stack area too short"
+           : number == SIDUMZA_BAD_CLOSED   ? "bad word of closed terminals"
                                             : refusals[number - SIDUMZA_TABLE_SHORT];
 }
 
@@ -111,23 +116,32 @@ enum { LIMIT, STACK, LIST, SECOND, LIMITS };
 
 /* What a page lends to the parser. */
 struct page {
-    uint64_t limits[LIMITS];
+    uint64_t limits[LIMITS], closed;
+    const char *list_of_closed; /* TERMINALS; NULL for a publisher */
     uint16_t table[SIDUMZA_TABLE_MOST], *stack, *list, *second;
     size_t table_len;
 };
 
 static void parse(struct page *p, const uint8_t *input, size_t n, uint64_t step_limit, uint64_t *out)
 {
-    sidumza_parse(p->table, p->table_len, input, n, p->stack, p->limits[STACK], p->list, p->limits[LIST], p->second,
-                  p->limits[SECOND], step_limit, out);
+    if (p->list_of_closed)
+        sidumza_parse_restricted(p->table, p->table_len, input, n, p->closed, p->stack, p->limits[STACK], p->list,
+                                 p->limits[LIST], p->second, p->limits[SECOND], step_limit, out);
+    else
+        sidumza_parse(p->table, p->table_len, input, n, p->stack, p->limits[STACK], p->list, p->limits[LIST], p->second,
+                      p->limits[SECOND], step_limit, out);
 }
 
-/* A wrong line: its position, what the terminals before it were read as, and what can follow there. */
-static void show_wrong(const struct page *p, const uint64_t *out)
+/* A wrong line: its position, where a closed terminal may stand, what the terminals before it were read as, and what can
+ * follow there. */
+static void show_wrong(const struct page *p, const uint8_t *input, size_t n, const uint64_t *out)
 {
     uint8_t terminals[64];
     size_t many = sidumza_terminals(out[SIDUMZA_EXPECTED], terminals);
-    printf("wrong at %llu: steps %llu", (unsigned long long)out[SIDUMZA_POSITION], (unsigned long long)out[SIDUMZA_STEPS]);
+    uint64_t at = out[SIDUMZA_POSITION];
+    int closed = p->list_of_closed && at < n && (p->closed >> input[at] & 1);
+    printf("%s at %llu: steps %llu", closed ? "closed" : "wrong", (unsigned long long)at,
+           (unsigned long long)out[SIDUMZA_STEPS]);
     for (uint64_t i = 1; i < out[SIDUMZA_DEPTH]; i++)
         printf("%s %u", i == 1 ? ", after" : "", sidumza_entered(p->table, p->table_len, p->stack[i]));
     printf(", expected");
@@ -135,9 +149,11 @@ static void show_wrong(const struct page *p, const uint64_t *out)
         printf(" %u", terminals[i]);
     if (out[SIDUMZA_NUMBER] == SIDUMZA_EXPECTED_UNKNOWN)
         printf(" unknown (46)");
+    else if (many == 0)
+        printf(" nothing");
 }
 
-static void show(const struct page *p, const uint64_t *out)
+static void show(const struct page *p, const uint8_t *input, size_t n_input, const uint64_t *out)
 {
     uint64_t n = out[SIDUMZA_NUMBER];
     unsigned long long steps = out[SIDUMZA_STEPS];
@@ -146,7 +162,7 @@ static void show(const struct page *p, const uint64_t *out)
         for (uint64_t i = 0; i < out[SIDUMZA_LISTED]; i++)
             printf(" %u", p->list[i]);
     } else if (n == SIDUMZA_NO_ACTION || n == SIDUMZA_EXPECTED_UNKNOWN) {
-        show_wrong(p, out);
+        show_wrong(p, input, n_input, out);
     } else if (out[SIDUMZA_DEPTH] == 0) {
         printf("refused %llu: %s", (unsigned long long)n, refusal(n));
     } else {
@@ -156,12 +172,31 @@ static void show(const struct page *p, const uint64_t *out)
     putchar('\n');
 }
 
+/* The word of closed terminals: a bit for each of them. */
+static uint64_t closed_word(const char *list)
+{
+    uint64_t word = 0;
+    const char *s = list;
+    do {
+        char *end;
+        unsigned long m = isdigit((unsigned char)*s) ? strtoul(s, &end, 10) : 64;
+        if (m > 63 || (*end && *end != ','))
+            fail("--closed %s: not numbers up to 63 with commas between", list);
+        word |= (uint64_t)1 << m;
+        s = end;
+    } while (*s++);
+    return word;
+}
+
 /* The step limit and the lengths of the areas, where arguments give them. */
 static void arguments(int argc, char **argv, uint64_t limits[LIMITS])
 {
     static const uint64_t most[LIMITS] = {UINT64_MAX, 1 << 24, 1 << 24, 1 << 24};
-    if (argc < 2 || argc > 2 + LIMITS)
-        fail("usage: page TABLE [STEP_LIMIT [STACK [LIST [SECOND]]]]");
+    int usable = argc >= 2 && argc <= 2 + LIMITS;
+    for (int i = 1; i < argc; i++)
+        usable &= strncmp(argv[i], "--", 2) != 0;
+    if (!usable)
+        fail("usage: page [--closed TERMINALS] TABLE [STEP_LIMIT [STACK [LIST [SECOND]]]]");
     for (int i = 2; i < argc; i++) {
         char *s = argv[i];
         if (!number(&s, most[i - 2], &limits[i - 2]) || *s)
@@ -181,15 +216,27 @@ static void open_page(struct page *p, const char *path)
     p->second = room(NULL, p->limits[SECOND] * sizeof *p->second);
     parse(p, NULL, 0, 0, out);
     uint64_t n = out[SIDUMZA_NUMBER];
+    if (n == SIDUMZA_BAD_CLOSED && p->table[1] == 1)
+        fail("--closed %s: refused 50: nothing can be closed", p->list_of_closed);
+    if (n == SIDUMZA_BAD_CLOSED)
+        fail("--closed %s: refused 50: only 1 to %d can be closed", p->list_of_closed, p->table[1] - 1);
     if (out[SIDUMZA_DEPTH] == 0)
-        fail("%s: refused %d: %s", n == SIDUMZA_NO_STACK ? "STACK" : n == SIDUMZA_SECOND_SHORT ? "SECOND" : path, (int)n,
-             refusal(n));
+        fail("%s: refused %d: %s",
+             n == SIDUMZA_NO_STACK       ? "STACK"
+             : n == SIDUMZA_SECOND_SHORT ? "SECOND"
+                                         : path,
+             (int)n, refusal(n));
 }
 
 int main(int argc, char **argv)
 {
     static struct page page = {.limits = {1000000, 65536, 1000000}};
     uint64_t out[SIDUMZA_OUT];
+    if (argc > 2 && strcmp(argv[1], "--closed") == 0) {
+        page.list_of_closed = argv[2];
+        page.closed = closed_word(argv[2]);
+        argc -= 2, argv += 2;
+    }
     arguments(argc, argv, page.limits);
     open_page(&page, argv[1]);
 
@@ -207,9 +254,9 @@ int main(int argc, char **argv)
         if (s != line + got)
             fail("line %lu: not a line of terminals", k);
         parse(&page, input, n, page.limits[LIMIT], out);
-        show(&page, out);
+        show(&page, input, n, out);
     }
-    if (ferror(stdin) || fflush(stdout) != 0)
+    if (ferror(stdin) || fflush(stdout) != 0 || ferror(stdout))
         fail("cannot read or write");
     free(line);
     free(input);

@@ -43,6 +43,15 @@ for example in a json nested pair; do
     same $example.lines "$here/$example.expected"
 done
 
+# choir EXAMPLE TERMINALS: the same lines as a choir's, to which these terminals are closed
+choir() {
+    "$page" --closed "$2" "$here/$1.table" <"$here/$1.lines" >"$tmp/out" || failed=1
+    same "$1.lines of a choir" "$here/$1.choir.expected"
+}
+
+choir json 8
+choir nested 2
+
 says "2 1" "stopped 32: steps 4, stack 2, listed 2" "$here/a.table" 4
 says "2 1" "stopped 33: steps 2, stack 2, listed 1" "$here/a.table" 100 2
 says "2 1" "stopped 34: steps 3, stack 3, listed 1" "$here/a.table" 100 10 1
@@ -81,7 +90,37 @@ long=$(awk 'BEGIN { for (i = 1; i < 65535; i++) printf "1 " }')
 says "${long}1" "wrong at 65535: steps 65536, after ${long}3, expected 1 2" "$here/nested.table"
 says "${long}1" "wrong at 65535: steps 65536, after ${long}3, expected unknown (46)" "$here/nested.table" 1000000 65536 1 65536
 
+# closed terminals: wrong before any reduction and before the limits, and not expected
+says "2 1" "closed at 1: steps 1, after 2, expected 0" --closed 1 "$here/a.table"
+says "2 1" "closed at 0: steps 0, expected nothing" --closed 2 "$here/a.table"
+says "2 1" "closed at 0: steps 0, expected nothing" --closed 2,1,002 "$here/a.table"
+says "2" "accepted: steps 3, productions 1" --closed 1 "$here/a.table"
+says "2 2 1" "wrong at 1: steps 1, after 2, expected 0" --closed 1 "$here/a.table"
+says "2 1" "closed at 1: steps 1, after 2, expected unknown (46)" --closed 1 "$here/a.table" 1
+says "2 1" "closed at 1: steps 1, after 2, expected 0" --closed 1 "$here/a.table" 3 2 0 2
+says "2 1" "stopped 32: steps 0, stack 1, listed 0" --closed 1 "$here/a.table" 0
+says "" "wrong at 0: steps 0, expected nothing" --closed 2 "$here/a.table" 0
+says "2" "closed at 0: steps 0, expected nothing" --closed 2 "$here/a.table" 0 1 0
+says "2 3" "refused 26: no such terminal" --closed 1 "$here/a.table"
+awk 'BEGIN { printf "table 3 64 1 1\nleft 64\nlength 1\nentered 0 62 63\n"
+    for (q = 0; q < 3; q++) {
+        printf "row %d :", q
+        for (x = 0; x < 65; x++)
+            printf " %d", (q == 0) * ((x == 62) + 2 * (x == 63))
+        print ""
+    } }' >"$tmp/wide"
+says "63" "wrong at 1: steps 1, after 63, expected nothing" --closed 62,1 "$tmp/wide"
+says "63" "closed at 0: steps 0, expected 62" --closed 63 "$tmp/wide"
+says "" "wrong at 0: steps 0, expected 63" --closed 62 "$tmp/wide"
+
 bad "" # no table named
+# a wrong use of the option gets the usage
+for use in "--closed" "--closed 1" "--closed=1 $here/a.table" "--close 1 $here/a.table" "--closed 1 --closed 2 $here/a.table" \
+    "$here/a.table --closed 1"; do
+    bad "" $use
+    grep -q '^page: usage' "$tmp/err" || { echo "examples: $page: $use: message '$(cat "$tmp/err")'"; failed=1; }
+done
+bad "" --closed 1 "$here/a.table" 1 2 3 4 5
 bad "" "$tmp/missing"
 bad "" "$here"
 bad "" /dev/null
@@ -96,6 +135,29 @@ for limit in 18446744073709551616 18446744073709551620 36893488147419103232 9999
     [ "$(cat "$tmp/err")" = "page: $limit: not a number up to 18446744073709551615" ] ||
         { echo "examples: $page: limit '$limit': message '$(cat "$tmp/err")'"; failed=1; }
 done
+for list in "" 1, ,1 1,,2 "1 2" 64 1,64 18446744073709551617 x 1x -1 +1 0x1; do
+    bad "2 1\n" --closed "$list" "$here/a.table"
+    [ "$(cat "$tmp/err")" = "page: --closed $list: not numbers up to 63 with commas between" ] ||
+        { echo "examples: $page: closed '$list': message '$(cat "$tmp/err")'"; failed=1; }
+done
+# unclosed MESSAGE TERMINALS ARGUMENTS: terminals that cannot be closed get this message once, and status 2
+unclosed() {
+    message=$1 list=$2
+    shift 2
+    bad "2 2\n2 1\n" --closed "$list" "$@"
+    if [ -s "$tmp/out" ] || [ "$(cat "$tmp/err")" != "page: $message" ]; then
+        echo "examples: $page: closed $list $*: message '$(cat "$tmp/err")', answers '$(cat "$tmp/out")'"
+        failed=1
+    fi
+}
+
+for list in 0 3 63 1,2,3 0,1; do
+    unclosed "--closed $list: refused 50: only 1 to 2 can be closed" $list "$here/a.table"
+done
+unclosed "--closed 0: refused 50: only 1 to 63 can be closed" 0 "$tmp/wide"
+unclosed "--closed 1: refused 50: nothing can be closed" 1 "$here/empty.table"
+unclosed "SECOND: refused 45: second stack area too short" 0 "$here/a.table" 3 2 0 1
+unclosed "STACK: refused 27: no stack area" 3 "$here/a.table" 3 0
 # lent MESSAGE ARGUMENTS: areas with which no line is read get this message once, and status 2
 lent() {
     message=$1
@@ -140,6 +202,35 @@ END
     fi
 }
 
+# clogged: an output that fails for a while and then goes on gets a message and status 2
+clogged() {
+    python3 - "$page" "$here/a.table" 2>"$tmp/err" <<'END'
+import array, fcntl, os, subprocess, sys, termios, time
+reading, writing = os.pipe()
+os.set_blocking(writing, False)
+program = subprocess.Popen(sys.argv[1:], stdin=subprocess.PIPE, stdout=writing)
+os.close(writing)
+unread = array.array("i", [1])
+try:
+    program.stdin.write(b"2 1\n" * 30000)
+    # the answers are more than the pipe holds; all lines but the last few are answered before any answer is taken
+    while program.poll() is None and unread[0]:
+        fcntl.ioctl(program.stdin, termios.FIONREAD, unread)
+        time.sleep(0.01)
+    os.read(reading, 1 << 20)
+    program.stdin.close()
+except BrokenPipeError:
+    pass
+sys.exit(program.wait(20))
+END
+    status=$?
+    if [ $status -ne 2 ] || ! grep -q '^page: ' "$tmp/err"; then
+        echo "examples: $page: output that fails for a while: exit $status, message '$(cat "$tmp/err")'"
+        failed=1
+    fi
+}
+
+clogged
 broken "2 1
 2 2
 " "accepted: steps 5, productions 1 0

@@ -16,6 +16,8 @@ MAKETABLE=target/bin/maketable sh tests/generator/run.sh
 NONTERMINALS=12 sh bench/reader/long.sh
 # the benchmark of what can follow, with short inputs: the sets are those that Bison expects
 ROUNDS=1 LENGTHS="10 100 1000" sh bench/reader/offers.sh
+# the benchmark of closed terminals, with short inputs: the choir's call answers as the publisher's where it must
+ROUNDS=1 PLACES=1 LENGTHS="10 100 1000" sh bench/reader/closed.sh
 # the scripts and the tool beside the proofs; the first call builds it
 ./explain <examples/a.card >/dev/null
 python3 tests/scripts/scripts.py target/bin/maketable target/cargo/release/explain

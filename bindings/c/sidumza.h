@@ -20,7 +20,7 @@ enum {
     SIDUMZA_DEPTH,          /* stack places in use */
     SIDUMZA_LISTED,         /* productions listed */
     SIDUMZA_POSITION,       /* 31 and 46: the position, from 0; at the end it is the input's length */
-    SIDUMZA_EXPECTED,       /* 31: a word with bit m set for each terminal m that can follow, bit 0 for the end */
+    SIDUMZA_EXPECTED,       /* 31: a word with a bit for each terminal that can follow and is not closed, bit 0 for the end */
     SIDUMZA_EXPECTED_COUNT, /* 31: how many terminals are expected */
     SIDUMZA_OUT             /* the number of places */
 };
@@ -31,7 +31,7 @@ enum {
 enum {
     SIDUMZA_ACCEPTED = 0,
 
-    /* Refusals, tested in the order 21 (under 4 numbers), 22, 21, 23, 24, 44, 25, 26, 27, 45.
+    /* Refusals, tested in the order 21 (under 4 numbers), 22, 21, 23, 24, 44, 25, 26, 27, 45, 50.
      * They change no area, and have no stack place in use (SIDUMZA_DEPTH is 0; every end has one at least). */
     SIDUMZA_TABLE_SHORT = 21,    /* the table has under 4 numbers, or fewer than its sizes say */
     SIDUMZA_BAD_SIZES = 22,      /* a size of the table is 0 or above its limit */
@@ -43,9 +43,10 @@ enum {
     SIDUMZA_BAD_ENTERED = 44,    /* an entering symbol that is at least T + N, or not 0 for state 0, or other than the
                                     column of a cell that names the state */
     SIDUMZA_SECOND_SHORT = 45,   /* the second area is shorter than the stack area */
+    SIDUMZA_BAD_CLOSED = 50,     /* sidumza_parse_restricted alone: the word has bit 0 or a bit from T on */
 
     /* Ends, tested in the order 31, 32, 34, 35, 33 before each step. 46 comes in place of 31. */
-    SIDUMZA_NO_ACTION = 31,  /* the input is no sentence: no action for the next terminal */
+    SIDUMZA_NO_ACTION = 31,  /* no action for the next terminal: the input is no sentence; or that terminal is closed */
     SIDUMZA_STEP_LIMIT = 32, /* as many steps made as allowed */
     SIDUMZA_STACK_FULL = 33, /* a push with no place left */
     SIDUMZA_LIST_FULL = 34,  /* a reduction with the list full */
@@ -161,6 +162,41 @@ enum {
 void sidumza_parse(const uint16_t *table, size_t table_len, const uint8_t *input, size_t input_len, uint16_t *stack,
                    size_t stack_len, uint16_t *list, size_t list_len, uint16_t *second, size_t second_len,
                    uint64_t step_limit, uint64_t out[7]);
+
+/* As sidumza_parse, for a reader to whom some terminals are closed: the choir's reading, beside the publisher's above.
+ *
+ * closed             a word with bit m set for each closed terminal m. The end marker is never closed: a word with bit 0 is
+ *                    refused (50), and so is one with a bit from T on. With T = 64 bit 0 alone can be at fault.
+ * all others         as for sidumza_parse, and with the same duties.
+ *
+ * What it does: before each step, where the next terminal is closed, the end is 31, ahead of 32 and of all others, so that
+ * no reduction is made under a closed terminal; the position is the terminal's. The expected set of 31, here and at any
+ * other position, has no closed terminal: no fresh reading is made for one, so none makes 46 of 31. The fresh readings for
+ * the others are those of sidumza_parse, and 46 comes where one of them stops on 32, 33 or 35. The set may be empty: then
+ * nothing that is open can stand there, nor can the input end there.
+ *
+ * A closed terminal ended the input where the number is 31 or 46, out[SIDUMZA_POSITION] is less than input_len and
+ * closed >> input[out[SIDUMZA_POSITION]] & 1 is 1; whether the grammar would allow it there is not looked at. Make the word
+ * of UINT64_C(1) << m, not of 1 << m.
+ *
+ * Beside sidumza_parse on the same areas and step limit:
+ * - With word 0 it answers the same, and leaves the same in every area.
+ * - An input without closed terminals ends in the same way. Only the expected set is without the closed terminals, and 31
+ *   comes for a 46 that only their fresh readings caused.
+ * - Any other input ends at its first closed terminal, with 31 or 46, unless sidumza_parse stops before that: then it ends
+ *   there as with sidumza_parse, but for the expected set and 46, as above. It is never accepted.
+ * - So by the maker's table, where steps, stack and list suffice, an input is accepted just where it is a sentence without
+ *   closed terminals. What can follow are the open terminals with which the input before the position begins a sentence,
+ *   and 0 where that input is one. Any sentence counts: it may be that only closed terminals complete it.
+ *
+ * What to lend and what a call costs: as for sidumza_parse. The first closed terminal is looked for once, before the first
+ * step: too little to be told from the reading, some 0.1 nanoseconds a terminal at most, where no terminal of the input lies
+ * between the lowest and the highest closed one, else 0.2 to 0.5; and with any word but 0 some 5 to 10 nanoseconds a call
+ * (bench/reader/closed.sh).
+ */
+void sidumza_parse_restricted(const uint16_t *table, size_t table_len, const uint8_t *input, size_t input_len,
+                              uint64_t closed, uint16_t *stack, size_t stack_len, uint16_t *list, size_t list_len,
+                              uint16_t *second, size_t second_len, uint64_t step_limit, uint64_t out[7]);
 
 /* The lowest terminal of an expected set, 64 where the set is empty. */
 uint32_t sidumza_lowest(uint64_t expected);

@@ -23,6 +23,8 @@
        stack LENGTH, list LENGTH, second LENGTH, limit STEPS
                                    without it the second area is as long as
                                    the stack
+       closed WORD                 the choir's call with this word; without it
+                                   the publisher's
        answer NUMBERS              number, steps, depth, listed, position,
                                    expected word, expected count; rest 0
        stacked NUMBERS, listed NUMBERS   the first places afterwards; places
@@ -40,7 +42,7 @@
 
 enum {
     TABLE = 32260, WORK = 8192, WORK2 = 16384,
-    LONGER = 100, FENCE = 16, MANY = 70000, NUMBERS = 47
+    LONGER = 100, FENCE = 16, MANY = 70000, NUMBERS = 51
 };
 
 static uint64_t values[MANY];
@@ -53,9 +55,9 @@ static uint16_t given[MANY];
 static uint8_t input[MANY];
 static uint16_t stack[MANY], list[MANY], second[MANY];
 static size_t card_len, given_len, input_len, stack_len, list_len, second_len, areas[3];
-static uint64_t limit;
+static uint64_t limit, closed;
 static uint64_t out[7];
-static int answered, second_given;
+static int answered, second_given, closed_given;
 static char name[300], kind;
 static unsigned long makes, parses, failures, line_number;
 static unsigned long seen[NUMBERS];
@@ -119,7 +121,7 @@ static void numbers16(uint16_t *into, size_t *length) {
 static void begin(char what, const char *title) {
     kind = what;
     snprintf(name, sizeof name, "%.299s", title);
-    answered = second_given = 0;
+    answered = second_given = closed_given = 0;
     areas[0] = TABLE, areas[1] = WORK, areas[2] = WORK2;
     card_len = input_len = 0;
     stack_len = list_len = 100;
@@ -217,7 +219,11 @@ static void run_parse(void) {
         out[i] = 99;
     if (!second_given)
         second_len = stack_len;
-    sidumza_parse(given, given_len, input, input_len, stack, stack_len, list, list_len, second, second_len, limit, out);
+    if (closed_given)
+        sidumza_parse_restricted(given, given_len, input, input_len, closed, stack, stack_len, list, list_len, second,
+                                 second_len, limit, out);
+    else
+        sidumza_parse(given, given_len, input, input_len, stack, stack_len, list, list_len, second, second_len, limit, out);
     parses++;
     if (out[0] < NUMBERS)
         seen[out[0]]++;
@@ -234,90 +240,131 @@ static void compare_area(const char *which, const uint16_t *area) {
         }
 }
 
-static int starts(const char *line, const char *word, const char **rest) {
+static int is(const char *line, const char *word) {
     size_t length = strlen(word);
-    if (strncmp(line, word, length) != 0 || (line[length] != ' ' && line[length] != 0))
-        return 0;
-    *rest = line + length;
-    return 1;
+    return strncmp(line, word, length) == 0 && (line[length] == ' ' || line[length] == 0);
+}
+
+static void compare_entered(void) {
+    if (count != table[0])
+        malformed();
+    for (size_t i = 0; i < count; i++)
+        if (table[entered_place() + i] != values[i])
+            fail("entering symbol of state", i);
+}
+
+static void compare_row(void) {
+    size_t columns = (size_t)table[1] + table[2];
+    if (count != columns + 1)
+        malformed();
+    const uint16_t *row = table + row_place(values[0]);
+    for (size_t i = 0; i < columns; i++)
+        if (row[i] != values[i + 1])
+            fail("row differs at column", i);
+}
+
+static void compare_table(void) {
+    if (count != table_length())
+        malformed();
+    for (size_t i = 0; i < count; i++)
+        if (table[i] != values[i])
+            fail("table differs at place", i);
+}
+
+/* A line of a `make` case behind its answer: what the table must have. */
+static void made_line(const char *line) {
+    if (is(line, "states") && count == 1) {
+        if (table[0] != values[0])
+            fail("number of states", table[0]);
+    } else if (is(line, "entered")) {
+        compare_entered();
+    } else if (is(line, "row")) {
+        compare_row();
+    } else if (is(line, "cell") && count == 3) {
+        uint16_t cell = table[row_place(values[0]) + values[1]];
+        if (cell != values[2])
+            fail("cell", cell);
+    } else if (is(line, "table")) {
+        compare_table();
+    } else {
+        malformed();
+    }
+}
+
+static void make_line(const char *line) {
+    if (is(line, "card")) {
+        numbers16(card, &card_len);
+    } else if (is(line, "areas") && count == 3) {
+        for (size_t i = 0; i < 3; i++)
+            areas[i] = (size_t)values[i];
+        if (areas[0] > TABLE + LONGER || areas[1] > WORK + LONGER || areas[2] > WORK2 + LONGER)
+            malformed();
+    } else if (answered) {
+        made_line(line);
+    } else {
+        malformed();
+    }
+}
+
+/* One number for the call. */
+static void set_number(const char *line) {
+    if (is(line, "stack")) {
+        stack_len = (size_t)values[0];
+    } else if (is(line, "list")) {
+        list_len = (size_t)values[0];
+    } else if (is(line, "second")) {
+        second_len = (size_t)values[0];
+        second_given = 1;
+    } else if (is(line, "limit")) {
+        limit = values[0];
+    } else if (is(line, "closed")) {
+        closed = values[0];
+        closed_given = 1;
+    } else {
+        malformed();
+    }
+}
+
+static void parse_line(const char *line) {
+    if (is(line, "table")) {
+        numbers16(given, &given_len);
+    } else if (is(line, "input")) {
+        for (size_t i = 0; i < count; i++)
+            input[i] = (uint8_t)values[i];
+        input_len = count;
+    } else if (answered && is(line, "stacked")) {
+        compare_area("stack", stack);
+    } else if (answered && is(line, "listed")) {
+        compare_area("list", list);
+    } else if (count == 1) {
+        set_number(line);
+    } else {
+        malformed();
+    }
 }
 
 static void read_line(const char *line) {
-    const char *rest;
-    if (starts(line, "make", &rest)) {
-        begin('m', rest + 1);
+    const char *rest = strchr(line, ' ');
+    if (is(line, "make") || is(line, "parse")) {
+        begin(line[0], rest ? rest + 1 : "");
         return;
     }
-    if (starts(line, "parse", &rest)) {
-        begin('p', rest + 1);
-        return;
-    }
-    if (starts(line, "made", &rest)) {
+    if (is(line, "made")) {
         memcpy(given, made, sizeof made);
         given_len = TABLE;
         return;
     }
-    rest = strchr(line, ' ');
     numbers(rest ? rest : "");
-    if (starts(line, "answer", &rest)) {
+    if (is(line, "answer")) {
         answered = 1;
         if (kind == 'm')
             run_make();
         else
             run_parse();
-    } else if (kind == 'm' && starts(line, "card", &rest)) {
-        numbers16(card, &card_len);
-    } else if (kind == 'm' && starts(line, "areas", &rest) && count == 3) {
-        for (size_t i = 0; i < 3; i++)
-            areas[i] = (size_t)values[i];
-        if (areas[0] > TABLE + LONGER || areas[1] > WORK + LONGER || areas[2] > WORK2 + LONGER)
-            malformed();
-    } else if (kind == 'm' && answered && starts(line, "states", &rest) && count == 1) {
-        if (table[0] != values[0])
-            fail("number of states", table[0]);
-    } else if (kind == 'm' && answered && starts(line, "entered", &rest)) {
-        if (count != table[0])
-            malformed();
-        for (size_t i = 0; i < count; i++)
-            if (table[entered_place() + i] != values[i])
-                fail("entering symbol of state", i);
-    } else if (kind == 'm' && answered && starts(line, "row", &rest)) {
-        size_t columns = (size_t)table[1] + table[2];
-        if (count != columns + 1)
-            malformed();
-        const uint16_t *row = table + row_place(values[0]);
-        for (size_t i = 0; i < columns; i++)
-            if (row[i] != values[i + 1])
-                fail("row differs at column", i);
-    } else if (kind == 'm' && answered && starts(line, "cell", &rest) && count == 3) {
-        uint16_t cell = table[row_place(values[0]) + values[1]];
-        if (cell != values[2])
-            fail("cell", cell);
-    } else if (kind == 'm' && answered && starts(line, "table", &rest)) {
-        if (count != table_length())
-            malformed();
-        for (size_t i = 0; i < count; i++)
-            if (table[i] != values[i])
-                fail("table differs at place", i);
-    } else if (kind == 'p' && starts(line, "table", &rest)) {
-        numbers16(given, &given_len);
-    } else if (kind == 'p' && starts(line, "input", &rest)) {
-        for (size_t i = 0; i < count; i++)
-            input[i] = (uint8_t)values[i];
-        input_len = count;
-    } else if (kind == 'p' && starts(line, "stack", &rest) && count == 1) {
-        stack_len = (size_t)values[0];
-    } else if (kind == 'p' && starts(line, "list", &rest) && count == 1) {
-        list_len = (size_t)values[0];
-    } else if (kind == 'p' && starts(line, "second", &rest) && count == 1) {
-        second_len = (size_t)values[0];
-        second_given = 1;
-    } else if (kind == 'p' && starts(line, "limit", &rest) && count == 1) {
-        limit = values[0];
-    } else if (kind == 'p' && answered && starts(line, "stacked", &rest)) {
-        compare_area("stack", stack);
-    } else if (kind == 'p' && answered && starts(line, "listed", &rest)) {
-        compare_area("list", list);
+    } else if (kind == 'm') {
+        make_line(line);
+    } else if (kind == 'p') {
+        parse_line(line);
     } else {
         malformed();
     }
@@ -338,7 +385,8 @@ int main(int argc, char **argv) {
     }
     fclose(file);
     for (unsigned long number = 0; number < NUMBERS; number++) {
-        int wanted = number < 14 || (number > 20 && number < 28) || (number > 30 && number < 36) || number > 43;
+        int wanted = number < 14 || (number > 20 && number < 28) || (number > 30 && number < 36) ||
+                     (number > 43 && number < 47) || number == 50;
         if (wanted && seen[number] == 0) {
             printf("answer %lu was not seen\n", number);
             failures++;

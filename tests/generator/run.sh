@@ -78,7 +78,7 @@ refused() {
     ! "$@" "$built/changed.txt"
 }
 
-# The programs that compare find a changed cell, transition, entering symbol, refusal and answer.
+# The programs that compare find a changed cell, transition, entering symbol, refusal, answer and word of closed terminals.
 comparisons_fail() {
     cell='0,/^row 1 /s/:1025$/:1024/'
     transition='0,/^row 0 /s/ 2:1 / 1:1 /'
@@ -89,10 +89,11 @@ comparisons_fail() {
         refused '0,/^answer 0 5/s/^answer 0 5/answer 0 6/' "$tests/cases/cases.txt" "$built/cases" &&
         refused '0,/^entered 0/s/^entered 0 1/entered 0 2/' "$tests/cases/cases.txt" "$built/cases" &&
         refused '0,/^answer 31 3 3 1 2 6 2/s/6 2$/4 1/' "$tests/cases/cases.txt" "$built/cases" &&
+        refused '0,/^closed 2$/s/^closed 2$/closed 4/' "$tests/cases/cases.txt" "$built/cases" &&
         refused "$cell" "$tests/bison/data/small.txt" python3 "$tests/cases/maketable.py" "$built/release/maketable" &&
         refused "$transition" "$tests/bison/data/small.txt" python3 "$tests/cases/maketable.py" "$built/release/maketable" &&
         refused "$refusal" "$tests/bison/data/slow.txt" python3 "$tests/cases/maketable.py" "$built/release/maketable" &&
-        echo "9 changed files found"
+        echo "10 changed files found"
 }
 
 all() {

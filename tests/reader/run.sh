@@ -34,7 +34,7 @@ part() {
 # The archive exports its functions and leans on nothing but the memory functions.
 symbols() {
     nm -g --defined-only "$archive" | awk 'NF == 3 { print $3 }' | sort -u >"$out/defined"
-    for f in sidumza_parse sidumza_lowest sidumza_terminals; do
+    for f in sidumza_parse sidumza_parse_restricted sidumza_lowest sidumza_terminals; do
         grep -qx $f "$out/defined" || { echo "no $f"; return 1; }
     done
     nm -u "$archive" | awk 'NF == 2 { print $2 }' | sort -u | comm -23 - "$out/defined" >"$out/needed"

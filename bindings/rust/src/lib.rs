@@ -1,7 +1,7 @@
 //! The LR parser: runs a parse table over an input of terminals.
 //!
 //! The parser is the archive `libparser_c.a`; its duties towards the caller (pointers valid for their
-//! lengths, areas that do not overlap) are met by the slices of [`parse`]. `bindings/c/sidumza.h`
+//! lengths, areas that do not overlap) are met by the slices of [`parse`] and [`parse_restricted`]. `bindings/c/sidumza.h`
 //! describes the table and the areas, and says how long they should be.
 //!
 //! [`read_table`] reads a table from the text that `maketable` prints; [`entered`] gives the symbols under which its
@@ -37,6 +37,8 @@ pub enum Refusal {
     BadEntered,
     /// 45: the second area is shorter than the stack area.
     SecondShort,
+    /// 50: the word of closed terminals has bit 0 or a bit from T on. Only `parse_restricted` gives it, after all others.
+    BadClosed,
 }
 
 /// What a parse did until its end.
@@ -55,10 +57,10 @@ pub struct Counts {
 pub enum Answer {
     /// 0: the input is accepted.
     Accepted { counts: Counts },
-    /// 21 to 27, 44 or 45.
+    /// 21 to 27, 44, 45 or 50.
     Refused { refusal: Refusal },
-    /// 31: no action for the terminal at `position`. Bit m of `expected` is set for each terminal m that can follow the
-    /// input before it (0: the end), `expected_count` of them.
+    /// 31: no action for the terminal at `position`, or it is closed. Bit m of `expected` is set for each terminal m that
+    /// can follow the input before it (0: the end) and is not closed, `expected_count` of them.
     NoAction { position: usize, expected: u64, expected_count: u32, counts: Counts },
     /// 32: as many steps made as allowed.
     StepLimit { counts: Counts },
@@ -68,7 +70,7 @@ pub enum Answer {
     ListFull { counts: Counts },
     /// 35: a reduction that would pop state 0, or whose next state is 0.
     BadGoto { counts: Counts },
-    /// 46: no action for the terminal at `position`, as with 31, but what can follow is not known: a fresh reading
+    /// 46: the terminal at `position` is wrong, as with 31, but what can follow is not known: a fresh reading
     /// stopped on 32, 33 or 35. A larger step limit and a longer second area help, unless the table is at fault (35).
     ExpectedUnknown { position: usize, counts: Counts },
 }
@@ -81,6 +83,21 @@ mod archive {
             table_len: usize,
             input: *const u8,
             input_len: usize,
+            stack: *mut u16,
+            stack_len: usize,
+            list: *mut u16,
+            list_len: usize,
+            second: *mut u16,
+            second_len: usize,
+            step_limit: u64,
+            out: *mut u64,
+        );
+        pub fn sidumza_parse_restricted(
+            table: *const u16,
+            table_len: usize,
+            input: *const u8,
+            input_len: usize,
+            closed: u64,
             stack: *mut u16,
             stack_len: usize,
             list: *mut u16,
@@ -116,7 +133,7 @@ mod archive {
 ///   short: then an input that is wrong at its end gets [`Answer::ExpectedUnknown`].
 /// - The expected set is now what truly can follow, and [`Answer::ExpectedUnknown`] may come in place of
 ///   [`Answer::NoAction`]. Every other answer, the counts, `stack` and `list` are the same; the time of a call is not.
-/// - The archive must be the one that belongs to this crate (0.3.0): the linker does not notice an older one, which writes
+/// - The archive must be the one that belongs to this crate: the linker does not notice one from before 0.3.0, which writes
 ///   to memory that is not its own.
 ///
 /// To callers of the function whose `step_limit` was a `u32`: a number of 32 bits is passed as `u64::from(..)` and
@@ -142,6 +159,49 @@ pub fn parse(
             table.len(),
             input.as_ptr(),
             input.len(),
+            stack.as_mut_ptr(),
+            stack.len(),
+            list.as_mut_ptr(),
+            list.len(),
+            second.as_mut_ptr(),
+            second.len(),
+            step_limit,
+            out.as_mut_ptr(),
+        );
+    }
+    answer(out)
+}
+
+/// As [`parse`], for a reader to whom some terminals are closed: the choir's reading, beside the publisher's.
+///
+/// Bit m of `closed` is set for each closed terminal m; a word with bit 0 or with a bit from T on is refused
+/// ([`Refusal::BadClosed`]). Where the next terminal is closed the input is wrong ([`Answer::NoAction`], or
+/// [`Answer::ExpectedUnknown`]), before any reduction under it and whatever the step limit is. No expected set has a closed
+/// terminal; no fresh reading is made for one, so none is the cause of [`Answer::ExpectedUnknown`].
+///
+/// With word 0 it is [`parse`]. An input without closed terminals ends as with [`parse`], but for the expected set and for
+/// an [`Answer::ExpectedUnknown`] that only closed terminals caused. Any other ends at its first closed terminal, unless
+/// [`parse`] stops before that: then it ends there as with [`parse`], but for the same. A closed terminal ended the input
+/// where `input.get(position).is_some_and(|&m| closed >> m & 1 == 1)`. `bindings/c/sidumza.h` says more.
+#[cfg(feature = "parser")]
+pub fn parse_restricted(
+    table: &[u16],
+    input: &[u8],
+    closed: u64,
+    stack: &mut [u16],
+    list: &mut [u16],
+    second: &mut [u16],
+    step_limit: u64,
+) -> Answer {
+    let mut out = [0u64; 7];
+    // SAFETY: as in `parse`.
+    unsafe {
+        archive::sidumza_parse_restricted(
+            table.as_ptr(),
+            table.len(),
+            input.as_ptr(),
+            input.len(),
+            closed,
             stack.as_mut_ptr(),
             stack.len(),
             list.as_mut_ptr(),
@@ -187,6 +247,7 @@ fn answer(out: [u64; 7]) -> Answer {
         27 => refused(Refusal::NoStack),
         44 => refused(Refusal::BadEntered),
         45 => refused(Refusal::SecondShort),
+        50 => refused(Refusal::BadClosed),
         31 => Answer::NoAction { position: out[4] as usize, expected: out[5], expected_count: out[6] as u32, counts },
         32 => Answer::StepLimit { counts },
         33 => Answer::StackFull { counts },

@@ -4,7 +4,7 @@ use crate::{Answer, Refusal};
 use std::fmt;
 
 impl Refusal {
-    /// The number of the refusal, 21 to 27, 44 or 45.
+    /// The number of the refusal, 21 to 27, 44, 45 or 50.
     pub fn number(self) -> u32 {
         match self {
             Refusal::TableShort => 21,
@@ -16,6 +16,7 @@ impl Refusal {
             Refusal::NoStack => 27,
             Refusal::BadEntered => 44,
             Refusal::SecondShort => 45,
+            Refusal::BadClosed => 50,
         }
     }
 }
@@ -32,6 +33,7 @@ impl fmt::Display for Refusal {
             Refusal::NoStack => "no stack area",
             Refusal::BadEntered => "bad entering symbol in the table",
             Refusal::SecondShort => "second stack area too short",
+            Refusal::BadClosed => "bad word of closed terminals",
         };
         write!(f, "refused {}: {words}", self.number())
     }
@@ -40,7 +42,7 @@ impl fmt::Display for Refusal {
 impl std::error::Error for Refusal {}
 
 impl Answer {
-    /// The number of the answer: 0, 21 to 27, 31 to 35 or 44 to 46.
+    /// The number of the answer: 0, 21 to 27, 31 to 35, 44 to 46 or 50.
     pub fn number(self) -> u32 {
         match self {
             Answer::Accepted { .. } => 0,
@@ -55,6 +57,7 @@ impl Answer {
     }
 }
 
+/// The answer in words. It does not know the word of closed terminals: `wrong at` is said of a closed one, too.
 impl fmt::Display for Answer {
     fn fmt(&self, f: &mut fmt::Formatter) -> fmt::Result {
         match self {
@@ -62,7 +65,8 @@ impl fmt::Display for Answer {
             Answer::Refused { refusal } => write!(f, "{refusal}"),
             Answer::NoAction { position, expected, counts, .. } => {
                 write!(f, "wrong at {position}: steps {}, expected", counts.steps)?;
-                (0..64).filter(|m| expected >> m & 1 == 1).try_for_each(|m| write!(f, " {m}"))
+                (0..64).filter(|m| expected >> m & 1 == 1).try_for_each(|m| write!(f, " {m}"))?;
+                f.write_str(if *expected == 0 { " nothing" } else { "" })
             }
             Answer::ExpectedUnknown { position, counts } => {
                 write!(f, "wrong at {position}: steps {}, expected unknown (46)", counts.steps)

@@ -1,7 +1,7 @@
 //! The binding of the generator, and with it the way card, table, text, table, parse.
 
 use sidumza::generator::{generate, table_of, Refusal, HALVES, TABLE, WORDS};
-use sidumza::{entered, parse, read_table, Answer};
+use sidumza::{entered, parse, parse_restricted, read_table, Answer};
 use std::collections::BTreeSet;
 
 const CARD_A: &str = "3 1 2 3 3 3 2 1 3 1 2";
@@ -208,4 +208,58 @@ fn what_can_follow_is_found_in_the_second_area() {
     let pair = table_of(&numbers("3 2 2 3 4 3 1 2 1 4 4")).expect("a table");
     let answer = parse(&pair, &[1, 2], &mut [7; 9], &mut [7; 9], &mut [7; 9], 99);
     assert_eq!(answer.to_string(), "wrong at 1: steps 1, expected 1");
+}
+
+#[test]
+fn closed_terminals_are_wrong_where_they_stand() {
+    let table = table_of(&numbers(CARD_A)).expect("a table");
+    let said = |input: &[u8], closed: u64, stack: usize, limit: u64| {
+        let (mut states, mut list, mut second) = (vec![7; stack], vec![7; 9], vec![7; stack]);
+        let answer = parse_restricted(&table, input, closed, &mut states, &mut list, &mut second, limit);
+        let left = if let Answer::Refused { .. } = answer { 7 } else { 0 };
+        assert!(second.iter().all(|&place| place == left), "{answer}");
+        (answer.number(), answer.to_string())
+    };
+    let refused = "refused 50: bad word of closed terminals";
+    let all = [
+        (said(&[2, 1], 2, 9, 9), 31, "wrong at 1: steps 1, expected 0"),
+        (said(&[2, 1], 4, 9, 9), 31, "wrong at 0: steps 0, expected nothing"),
+        (said(&[2], 2, 9, 9), 0, "accepted: steps 3, listed 1"),
+        (said(&[2, 2], 2, 9, 9), 31, "wrong at 1: steps 1, expected 0"),
+        (said(&[2, 1], 2, 9, 1), 46, "wrong at 1: steps 1, expected unknown (46)"),
+        (said(&[2], 4, 1, 0), 31, "wrong at 0: steps 0, expected nothing"),
+        (said(&[2], 2, 1, 9), 33, "stopped 33: steps 0, stack 1, listed 0"),
+        (said(&[2, 1], 1, 9, 9), 50, refused),
+        (said(&[2, 1], 8, 9, 9), 50, refused),
+        (said(&[2, 1], 1 << 63, 9, 9), 50, refused),
+        (said(&[2, 1], 1, 0, 9), 27, "refused 27: no stack area"),
+        (said(&[2, 3], 8, 9, 9), 26, "refused 26: no such terminal"),
+    ];
+    for ((number, words), wanted, text) in all {
+        assert_eq!((number, words.as_str()), (wanted, text));
+    }
+    let answer = parse_restricted(&table, &[2], 1, &mut [7; 3], &mut [7; 9], &mut [7; 2], 9);
+    assert_eq!(answer.to_string(), "refused 45: second stack area too short");
+}
+
+#[test]
+fn word_0_is_the_publishers() {
+    // S -> 1 S 2 | 1
+    let nested = table_of(&numbers("3 1 2 4 3 3 3 1 1 3 2 1")).expect("a table");
+    for input in [&[][..], &[1], &[1, 1], &[1, 1, 2], &[1, 1, 1, 2], &[2], &[1, 1, 2, 1], &[3]] {
+        for limit in 0..12 {
+            let mut areas = [[7; 9], [7; 9], [7; 9]];
+            let mut others = areas;
+            let [stack, list, second] = &mut areas;
+            let publisher = parse(&nested, input, stack, list, second, limit);
+            let [stack, list, second] = &mut others;
+            let choir = parse_restricted(&nested, input, 0, stack, list, second, limit);
+            assert_eq!((choir, others), (publisher, areas), "{input:?}, limit {limit}");
+        }
+    }
+    // Terminal 2 closed: no reduction under it, and it is not expected.
+    let (mut stack, mut list) = ([7; 9], [7; 9]);
+    let answer = parse_restricted(&nested, &[1, 1, 2], 4, &mut stack, &mut list, &mut [7; 9], 99);
+    assert_eq!(answer.to_string(), "wrong at 2: steps 2, expected 1");
+    assert_eq!((stack[..4].to_vec(), list), (vec![0, 1, 1, 7], [7; 9]));
 }

@@ -7,11 +7,12 @@ use Rattle.grammar.specs.Grammar.{Symbols}
 use Rattle.grammar.specs.Card.{grammarOf}
 use Rattle.grammar.proofs.CardLaws.{right-short}
 use Rattle.machine.specs.Exploration.{Explored}
-use Rattle.machine.specs.ComputedRun.{reading}
+use Rattle.machine.specs.ComputedRun.{reading, restrictedReading}
 use Rattle.claim.specs.Claim.{Demand3}
+use Rattle.claim.specs.RestrictedClaim.{RestrictedDemand3}
 use Rattle.claim.proofs.Means.{Limits}
 use Rattle.claim.proofs.Delivered as delivered
-use Rattle.claim.proofs.Delivered.{claim}
+use Rattle.claim.proofs.Delivered.{claim, restricted-claim}
 use Rattle.lalr.specs.Answer.{made}
 use Rattle.lalr.specs.ComputedAnswer.{cardAnswer, tableOf}
 use Rattle.lalr.specs.ComputedGenerator.{answerOf, generated}
@@ -32,6 +33,10 @@ module _ (c : List ℕ) (m : cardAnswer c ≡ made) where
   pub demand-3 : (behind input stack list second : List ℕ) (limit : ℕ) → Demand3 (grammarOf c) input (reading (tableOf c ++ behind) input stack list second limit)
   demand-3 behind = claim (grammarOf c) (the-formed c mk) (the-productive c mk) limits _ _ (tableOf c) (table-is c mk) (mk .few) behind
 
+  -- and for a choir's reading
+  pub restricted-demand-3 : (behind : List ℕ) (closed : ℕ) (input stack list second : List ℕ) (limit : ℕ) → RestrictedDemand3 (grammarOf c) closed input (restrictedReading (tableOf c ++ behind) closed input stack list second limit)
+  restricted-demand-3 behind = restricted-claim (grammarOf c) (the-formed c mk) (the-productive c mk) limits _ _ (tableOf c) (table-is c mk) (mk .few) behind
+
   pub fresh-unbroken : (behind line : List ℕ) → Symbols (grammarOf c .terminals) line → (limit second m : ℕ) → m < grammarOf c .terminals → Explored (tableOf c ++ behind) limit second line m 35 → ⊥
   fresh-unbroken behind = delivered.fresh-unbroken (grammarOf c) (the-formed c mk) (the-productive c mk) limits _ _ (tableOf c) (table-is c mk) (mk .few) behind
 
@@ -44,6 +49,12 @@ pub across : (t z w c : List ℕ) → generated t z w c .answer ≡ made → (in
 across t z w c e input stack list second limit =
     let a : answerOf (length t) (length z) (length w) c ≡ made = answer-of t z w c e in
     rw (made-area t z w c a) (demand-3 c (card-made t z w c a) _ input stack list second limit)
+
+pub restricted-across : (t z w c : List ℕ) → generated t z w c .answer ≡ made → (closed : ℕ) (input stack list second : List ℕ) (limit : ℕ)
+    → RestrictedDemand3 (grammarOf c) closed input (restrictedReading (generated t z w c .table) closed input stack list second limit)
+restricted-across t z w c e closed input stack list second limit =
+    let a : answerOf (length t) (length z) (length w) c ≡ made = answer-of t z w c e in
+    rw (made-area t z w c a) (restricted-demand-3 c (card-made t z w c a) _ closed input stack list second limit)
 
 pub fresh-across : (t z w c : List ℕ) → generated t z w c .answer ≡ made → (line : List ℕ) → Symbols (grammarOf c .terminals) line → (limit second m : ℕ) → m < grammarOf c .terminals
     → Explored (generated t z w c .table) limit second line m 35 → ⊥

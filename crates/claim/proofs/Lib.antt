@@ -4,5 +4,7 @@ pub mod Refusals
 pub mod Follow
 pub mod Endings
 pub mod Offers
+pub mod Answers
+pub mod RestrictedClaims
 pub mod ClaimLaws
 pub mod Delivered

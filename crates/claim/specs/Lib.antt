@@ -1,2 +1,3 @@
 pub mod TrueOffer
 pub mod Claim
+pub mod RestrictedClaim

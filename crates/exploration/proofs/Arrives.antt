@@ -11,7 +11,7 @@ use Rattle.tables.specs.Layout.{states, terminals, productions, cellOf, reducti
 use Rattle.tables.specs.declared.Shape.{Shape}
 use Rattle.machine.specs.Checks.{inputOk}
 use Rattle.machine.specs.Stops.{Stops, wrong-here}
-use Rattle.machine.specs.Exploration.{unlisted, Cut, no-steps-left, CutShort}
+use Rattle.machine.specs.Exploration.{unlisted, Cut, no-steps-left}
 use Rattle.machine.proofs.Checked.{Checked, shift-passed, reduce-passed}
 use Rattle.machine.proofs.LrMachineLaws.{conf, wrong}
 use Rattle.machine.proofs.Shifts.{Below}
@@ -21,8 +21,8 @@ use Rattle.machine.proofs.Shifts.{below-top}
 use Rattle.unlisted_steps.specs.declared.Next.{Next}
 use Rattle.unlisted_steps.specs.declared.Next.the-variants.{Moved}
 use Rattle.exploration.specs.Reaches.{Reaches}
-use Rattle.exploration.specs.Phases.{NoneFollows}
-use Rattle.exploration.proofs.Fresh.{alone, comes-start, stops-spent, explored, cut-short}
+use Rattle.exploration.specs.Phases.{NoneFollows, CutFor}
+use Rattle.exploration.proofs.Fresh.{alone, comes-start, stops-spent, explored, cut-for}
 use Rattle.exploration.proofs.Moves.{shifted, reduced, shift-comes, shift-stops, reduce-comes, reduce-stops}
 use Rattle.exploration.proofs.Cells.{line-terminal, accept-passed, cell-up-fits, cell-up-is}
 
@@ -45,14 +45,14 @@ reaches-in r = rw (r .long) r
 
 -- ---- with a terminal x of the line ahead
 
-module _ {t line st ahead : List ℕ} {limit places x : ℕ} {s : Spot} (pa : Checked t) (r : Reaches t limit places line st (x ∷ ahead) s) where
+module _ {t line st ahead : List ℕ} {limit places x : ℕ} {s : Spot} (r : Reaches t limit places line st (x ∷ ahead) s) where
   none-follows : cellOf t (r .state) x ≡ 0 → NoneFollows t limit places line
   none-follows e m h = explored {m = m} (λ _ z. (let z : _≡_ {A = ℕ} 0 1 = cc in absurd (omega arith))) (r .comes (alone m)) (wrong-here (wrong e))
 
-  cut-here : {n : ℕ} → Stops t (unlisted limit places (s .left)) (conf (r .state ∷ r .under) (x ∷ (ahead ++ [])) (r .listed)) n → Cut n → CutShort t limit places line
-  cut-here w c = cut-short {m = 0} (pa .sizes .terminals-are .0) (λ n. absurd (n refl)) (r .comes []) w c
+  cut-here : {n : ℕ} → Stops t (unlisted limit places (s .left)) (conf (r .state ∷ r .under) (x ∷ (ahead ++ [])) (r .listed)) n → Cut n → CutFor t limit places line 0
+  cut-here w c = cut-for {m = 0} (λ n. absurd (n refl)) (r .comes []) w c
 
-  spent-here : cellOf t (r .state) x ≢ 0 → s .left ≡ 0 → CutShort t limit places line
+  spent-here : cellOf t (r .state) x ≢ 0 → s .left ≡ 0 → CutFor t limit places line 0
   spent-here n e = cut-here (stops-spent (r .comes []) n e) no-steps-left
 
   module _ {st′ : List ℕ} (long : length st′ ≡ length st) (more : 0 < s .left) where
@@ -71,7 +71,7 @@ module _ {t line st ahead : List ℕ} {limit places x : ℕ} {s : Spot} (pa : Ch
           omega (arith, z .1),
         )
 
-    shift-cut : {a : ℕ} {y : Next} → cellOf t (r .state) x ≡ a → 0 < a → a < 1024 → Shifts t st′ s (r .state) (r .under) a y → ((n : Spot) → y ≡ Moved n → ⊥) → CutShort t limit places line
+    shift-cut : {a : ℕ} {y : Next} → cellOf t (r .state) x ≡ a → 0 < a → a < 1024 → Shifts t st′ s (r .state) (r .under) a y → ((n : Spot) → y ≡ Moved n → ⊥) → CutFor t limit places line 0
     shift-cut e h k d nm = let w = shift-stops s (r .comes []) (long ∙ r .long) e h k more d nm in cut-here (w .stops) (w .cut)
 
     reduce-next : {p : ℕ} {y : Next} {n : Spot} → cellOf t (r .state) x ≡ reduction p → reduction p ≢ accept → Reduces t st′ s (r .state) (r .under) p y → y ≡ Moved n
@@ -89,7 +89,7 @@ module _ {t line st ahead : List ℕ} {limit places x : ℕ} {s : Spot} (pa : Ch
           omega (arith, z .less),
         )
 
-    reduce-cut : {p : ℕ} {y : Next} → cellOf t (r .state) x ≡ reduction p → reduction p ≢ accept → Reduces t st′ s (r .state) (r .under) p y → ((n : Spot) → y ≡ Moved n → ⊥) → CutShort t limit places line
+    reduce-cut : {p : ℕ} {y : Next} → cellOf t (r .state) x ≡ reduction p → reduction p ≢ accept → Reduces t st′ s (r .state) (r .under) p y → ((n : Spot) → y ≡ Moved n → ⊥) → CutFor t limit places line 0
     reduce-cut e ne d nm = let w = reduce-stops s (r .comes []) (long ∙ r .long) e ne more d nm in cut-here (w .stops) (w .cut)
 
 -- ---- in the loop
@@ -119,11 +119,11 @@ module _ {t line cs st : List ℕ} {limit places i : ℕ} {z : Shape} {s : Spot}
     cell = sym (cell-up-is rd (here .state) (getD line i 0) top-in (next .1)) ∙ rw (← here .stands .top-is) (sym e)
 
     pub wrong-ends : a ≡ 0 → NoneFollows t limit places line
-    wrong-ends n = none-follows (rd .checked) here (cell ∙ n)
+    wrong-ends n = none-follows here (cell ∙ n)
 
     module _ (nz : a ≡ 0 → ⊥) where
-      pub spent-ends : s .left ≡ 0 → CutShort t limit places line
-      spent-ends n = spent-here (rd .checked) here (λ y. nz (sym cell ∙ y)) n
+      pub spent-ends : s .left ≡ 0 → CutFor t limit places line 0
+      spent-ends n = spent-here here (λ y. nz (sym cell ∙ y)) n
 
       module _ (more : s .left ≡ 0 → ⊥) where
         module _ (k : a < 1024) {y : Next} {st′ : List ℕ} (long : length st′ ≡ length st)
@@ -134,10 +134,10 @@ module _ {t line cs st : List ℕ} {limit places i : ℕ} {z : Shape} {s : Spot}
               (rw (← cell) (shift-passed (rd .checked) (here .state) (getD line i 0) top-in (next .1) (omega (arith, nz, cell)) (omega (arith, cell)) .0))
 
           pub shift-goes : {n : Spot} → y ≡ Moved n → Reaches t limit places line st′ (drop (i + 1) line) n × (n .left < s .left)
-          shift-goes ey = shift-next (rd .checked) here long (omega (arith, more)) cell (omega (arith, nz)) k shift-does ey
+          shift-goes ey = shift-next here long (omega (arith, more)) cell (omega (arith, nz)) k shift-does ey
 
-          pub shift-ends : ((n : Spot) → y ≡ Moved n → ⊥) → CutShort t limit places line
-          shift-ends nm = shift-cut (rd .checked) here long (omega (arith, more)) cell (omega (arith, nz)) k shift-does nm
+          pub shift-ends : ((n : Spot) → y ≡ Moved n → ⊥) → CutFor t limit places line 0
+          shift-ends nm = shift-cut here long (omega (arith, more)) cell (omega (arith, nz)) k shift-does nm
 
         module _ (k : 1024 ≤ a) where
           by : reduction (a - 1024) ≡ a
@@ -157,8 +157,8 @@ module _ {t line cs st : List ℕ} {limit places i : ℕ} {z : Shape} {s : Spot}
           module _ {y : Next} {st′ : List ℕ} (long : length st′ ≡ length st) (f : (q : ℕ) (qs : List ℕ) → Stands t st s q qs → Reduces t st′ s q qs (a - 1024) y) where
             pub reduce-goes : {n : Spot} → y ≡ Moved n → Reaches t limit places line st′ (drop i line) n × (n .left < s .left)
             reduce-goes ey =
-                let g = reduce-next (rd .checked) here long (omega (arith, more)) (cell ∙ sym by) (λ y. not-accept (sym by ∙ y)) (f _ _ (here .stands)) ey in
+                let g = reduce-next here long (omega (arith, more)) (cell ∙ sym by) (λ y. not-accept (sym by ∙ y)) (f _ _ (here .stands)) ey in
                 (rw (← drop-next line i h) at (g .0), g .1)
 
-            pub reduce-ends : ((n : Spot) → y ≡ Moved n → ⊥) → CutShort t limit places line
-            reduce-ends nm = reduce-cut (rd .checked) here long (omega (arith, more)) (cell ∙ sym by) (λ y. not-accept (sym by ∙ y)) (f _ _ (here .stands)) nm
+            pub reduce-ends : ((n : Spot) → y ≡ Moved n → ⊥) → CutFor t limit places line 0
+            reduce-ends nm = reduce-cut here long (omega (arith, more)) (cell ∙ sym by) (λ y. not-accept (sym by ∙ y)) (f _ _ (here .stands)) nm

@@ -6,13 +6,14 @@ use mathlib.Core.List.{List}
 use native.Mathlib.Omega.{arith}
 use lib.ListN.{length, getD}
 use lib.Dec.{ltb}
-use borrow.Author.Tests.{lt-ltb, le-ltb, ne-eqb, eq-eqb, ltb-true, eqb-true}
+use borrow.Author.Tests.{ltb-true}
 use Rattle.sets.proofs.TestLaws.{and-left, and-right, all-at}
-use Rattle.tables.specs.Layout.{states, terminals, width, cellOf, accept}
+use Rattle.tables.specs.Layout.{states, terminals, cellOf}
 use Rattle.tables.specs.declared.Shape.{Shape}
 use Rattle.tables.proofs.Places.{cell-in, cell-up}
-use Rattle.machine.specs.Checks.{terminalCellOk, cellOk, rowOk, cellsOk, terminalOk, inputOk}
-use Rattle.machine.proofs.Checked.{Checked, cell-within}
+use Rattle.machine.specs.Checks.{terminalOk, inputOk}
+use Rattle.machine.proofs.Checked.{below-width, cell-within}
+pub use Rattle.machine.proofs.Checked.{accept-passed}
 use Rattle.unlisted_steps.specs.Spot.{Readable}
 
 -- the terminals of a line that was let pass
@@ -22,25 +23,9 @@ line-terminal t line ok i h =
     let e = all-at (λ i. terminalOk t (getD line i 0)) (length line) ok i h in
     (ltb-true 0 (getD line i 0) (and-left (ltb 0 (getD line i 0)) _ e), ltb-true (getD line i 0) (terminals t) (and-right (ltb 0 (getD line i 0)) _ e))
 
-in-width : (t : List ℕ) {x : ℕ} → x < terminals t → x < width t
-unfolding width
-in-width t h = omega arith
-
--- accept stands in column 0 alone
-accept-cell : {t : List ℕ} → Checked t → (x v : ℕ) → x < terminals t → v ≡ accept → cellOk t x v ≡ true → x ≡ 0
-unfolding cellOk terminalCellOk
-accept-cell {t} pa x v h e ok =
-    let s = pa .sizes .states-are .1 in
-    eqb-true x 0 (rw (lt-ltb x (terminals t) h, ne-eqb v 0 (λ z. omega (arith, e, z)), le-ltb v (states t) (omega (arith, e)), eq-eqb v accept e) at ok)
-
-pub accept-passed : {t : List ℕ} → Checked t → (q x : ℕ) → q < states t → x < terminals t → cellOf t q x ≡ accept → x ≡ 0
-unfolding cellsOk rowOk
-accept-passed {t} pa q x h k e =
-    accept-cell pa x (cellOf t q x) k e (all-at (λ x. cellOk t x (cellOf t q x)) (width t) (all-at (rowOk t) (states t) (pa .cells-ok) q h) x (in-width t k))
-
 module _ {t cs : List ℕ} {z : Shape} (rd : Readable t cs z) (q x : ℕ) (h : q < states t) (k : x < terminals t) where
   pub cell-fits : q * z .width + x < length cs
-  cell-fits = rw (rd .rows) (cell-within (rd .checked) (rd .shaped) q x h (in-width t k))
+  cell-fits = rw (rd .rows) (cell-within (rd .checked) (rd .shaped) q x h (below-width (rd .checked) x k))
 
   pub cell-is : getD cs (q * z .width + x) 0 ≡ cellOf t q x
   cell-is = rw (rd .rows) (cell-in (rd .shaped) q x)

@@ -5,11 +5,12 @@ use mathlib.Core.Logic.{_≢_}
 use mathlib.Core.List.{List, [], _∷_, _++_, append-nil}
 use native.Mathlib.Omega.{arith}
 use Rattle.sets.specs.Lists.{peek}
-use Rattle.tables.specs.Layout.{terminals, cellOf, reduction, accept}
+use Rattle.tables.specs.Layout.{cellOf, reduction, accept}
 use Rattle.machine.specs.Stops.{Stops, no-steps, broken-here, stack-full}
-use Rattle.machine.specs.Exploration.{Comes, unlisted, Explored, shifts, stops, reads, Cut, CutShort}
+use Rattle.machine.specs.Exploration.{Comes, unlisted, Explored, stops, reads, Cut}
 use Rattle.machine.proofs.Explorations.{path-listed, comes-listed}
 use Rattle.machine.proofs.LrMachineLaws.{Config, conf, depth, Step, Path, Broken, Ends, wrong, broken}
+use Rattle.exploration.specs.Phases.{CutFor}
 
 module _ {t : List ℕ} where
   -- a step behind a path
@@ -62,6 +63,6 @@ module _ {t : List ℕ} {limit second : ℕ} where
     explored {m = zero} n f s = reads (simp append-nil at f) s
     explored {m = suc m} n f s = stops {m = suc m} (λ e. omega (arith, e)) (n (λ e. omega (arith, e))) f s
 
-    pub cut-short : {m n left : ℕ} {qs x out : List ℕ} → m < terminals t → (m ≢ 0 → x ≢ []) → Comes t limit second (line ++ alone m) (conf qs x out) left
-        → Stops t (unlisted limit second left) (conf qs x out) n → Cut n → CutShort t limit second line
-    cut-short {m} {n} h k f s c = record { terminal = m; number = n; below = h; ends = explored k f s; cut = c }
+    pub cut-for : {m n left : ℕ} {qs x out : List ℕ} → (m ≢ 0 → x ≢ []) → Comes t limit second (line ++ alone m) (conf qs x out) left
+        → Stops t (unlisted limit second left) (conf qs x out) n → Cut n → CutFor t limit second line m
+    cut-for {n = n} k f s c = record { number = n; ends = explored k f s; cut = c }

@@ -13,7 +13,7 @@ use Rattle.sets.proofs.HasLaws.{has-none, has-or, or-has-l, or-has-r}
 use Rattle.tables.specs.Layout.{states, terminals, productions, cellOf, reduction, accept}
 use Rattle.tables.specs.declared.Shape.{Shape}
 use Rattle.machine.specs.Stops.{Stops, accepted-here, wrong-here}
-use Rattle.machine.specs.Exploration.{Comes, unlisted, Explored, shifts, Cut, no-steps-left, no-place-left, CutShort}
+use Rattle.machine.specs.Exploration.{Comes, unlisted, Explored, shifts, Cut, no-steps-left, no-place-left}
 use Rattle.machine.proofs.Checked.{shift-passed, reduce-passed}
 use Rattle.machine.proofs.LrMachineLaws.{conf, Step, accepts, wrong}
 use Rattle.unlisted_steps.specs.Spot.{Readable, Stands, Standing, Reduces}
@@ -22,9 +22,9 @@ use Rattle.machine.proofs.Shifts.{below-top}
 use Rattle.unlisted_steps.specs.declared.Next.{Next}
 use Rattle.unlisted_steps.specs.declared.Next.the-variants.{Moved}
 use Rattle.exploration.specs.Reaches.{Reaches}
-use Rattle.exploration.specs.Phases.{Short, no-steps, no-place, Found, Apart, Stuck, Decides}
+use Rattle.exploration.specs.Phases.{Short, no-steps, no-place, Found, Apart, Stuck, Decides, PassCut, behind-line}
 use Rattle.exploration.specs.declared.Sorted.{Sorted}
-use Rattle.exploration.proofs.Fresh.{alone, peek-alone, comes-step, stops-spent, stops-full, explored, cut-short}
+use Rattle.exploration.proofs.Fresh.{alone, peek-alone, comes-step, stops-spent, stops-full, explored, cut-for}
 use Rattle.exploration.proofs.Moves.{reduced, reduce-comes, reduce-stops}
 use Rattle.exploration.proofs.Words.{lowest-member}
 use Rattle.exploration.proofs.Cells.{accept-passed, cell-fits, cell-is}
@@ -89,8 +89,8 @@ module _ {t line cs st : List ℕ} {limit places todo : ℕ} {z : Shape} {s : Sp
   stops-at : (m : ℕ) {n : ℕ} → Has group m → Stops t (unlisted limit places (s .left)) (conf (p .state ∷ p .under) (alone m) (p .listed)) n → Explored t limit places line m n
   stops-at m h w = explored (not-empty m) (p .comes m h) w
 
-  cut-at : (m : ℕ) {n : ℕ} → Has group m → Stops t (unlisted limit places (s .left)) (conf (p .state ∷ p .under) (alone m) (p .listed)) n → Cut n → CutShort t limit places line
-  cut-at m h w c = cut-short (small m (p .member m h)) (not-empty m) (p .comes m h) w c
+  cut-at : (m : ℕ) {n : ℕ} → Has group m → Stops t (unlisted limit places (s .left)) (conf (p .state ∷ p .under) (alone m) (p .listed)) n → Cut n → PassCut t limit places line todo
+  cut-at m h w c = behind-line (p .member m h) (cut-for (not-empty m) (p .comes m h) w c)
 
   is-wrong : (m : ℕ) → Has group m → rowOf cs z s m ≡ 0 → Explored t limit places line m 31
   is-wrong m h e = stops-at m h (wrong-here (wrong (cell m h e)))
@@ -107,10 +107,10 @@ module _ {t line cs st : List ℕ} {limit places todo : ℕ} {z : Shape} {s : Sp
       absurd (let y = accept-passed (rd .checked) (p .state) (suc m) top-in (small (suc m) (p .member (suc m) h)) (sym (row-is (suc m) h) ∙ e) in omega (arith, y))
 
   -- a terminal of the group cannot go on
-  pub pass-stuck : Stuck (rowOf cs z s) s (length st) group → CutShort t limit places line
+  pub pass-stuck : Stuck (rowOf cs z s) s (length st) group → PassCut t limit places line todo
   pass-stuck x = go (rw (p .long) at (x .why))
     where
-      go : Short s places (rowOf cs z s (x .terminal)) → CutShort t limit places line
+      go : Short s places (rowOf cs z s (x .terminal)) → PassCut t limit places line todo
       go (no-steps e) = cut-at (x .terminal) (x .member) (stops-spent (p .comes _ (x .member)) (λ y. x .some (sym (cell (x .terminal) (x .member) refl) ∙ y)) e) no-steps-left
       go (no-place more k b) =
           let d = p .stands .deep in
@@ -172,7 +172,7 @@ module _ {t line cs st : List ℕ} {limit places todo : ℕ} {z : Shape} {s : Sp
             omega (arith, d .less),
           )
 
-      all-cut : ((n : Spot) → y ≡ Moved n → ⊥) → CutShort t limit places line
+      all-cut : ((n : Spot) → y ≡ Moved n → ⊥) → PassCut t limit places line todo
       all-cut nm =
           let w = reduce-stops s (p .comes _ (first .1)) (long ∙ p .long) (cell (first .0) (first .1) (asked .1)) (asked .2) (asked .0) (f _ _ (p .stands)) nm in
           cut-at (first .0) (first .1) (w .stops) (w .cut)
@@ -199,5 +199,5 @@ module _ {t line cs st : List ℕ} {limit places todo : ℕ} {z : Shape} {s : Sp
       pub pass-goes : {n : Spot} → y ≡ Moved n → Passing t limit places line todo st′ n (x .same) found′ later′ × (n .left < s .left)
       pass-goes ey = all-go rd small sorted (x .production) asks some fits long f ey
 
-      pub pass-cut : ((n : Spot) → y ≡ Moved n → ⊥) → CutShort t limit places line
+      pub pass-cut : ((n : Spot) → y ≡ Moved n → ⊥) → PassCut t limit places line todo
       pass-cut nm = all-cut rd small sorted (x .production) asks some fits long f nm

@@ -1,7 +1,7 @@
 -- Laws of words as sets of terminals.
 use Prim.Native.Nat.{ℕ, _+_, _-_, _/_, _^_, _<_, _≤_}
 use mathlib.Core.Path.{_≡_, sym, ap, _∙_}
-use mathlib.Core.Bool.{true, false, not, false≢true}
+use mathlib.Core.Bool.{true, not, _&&_, false≢true}
 use mathlib.Core.Logic.{_↔_, _⊎_, ⊎-elim}
 use native.Mathlib.Omega.{arith}
 use lib.Dec.{lit<, eqb}
@@ -11,8 +11,9 @@ use borrow.Author.Tests.{eq-eqb, ne-eqb}
 use Rattle.sets.specs.Bit.{bit, count, Has, Within, Lowest, Rest}
 use Rattle.sets.proofs.BitLaws.{bit-not, bit-zero, bit-above, bit-shr, lowest-in, lowest-lt, lowest-below, clear-lowest}
 use Rattle.sets.proofs.CountLaws.{count-same}
-use Rattle.sets.proofs.HasLaws.{lt-or-ge, eq-or}
+use Rattle.sets.proofs.HasLaws.{lt-or-ge, eq-or, no-bit}
 use Rattle.sets.proofs.TestLaws.{and-true, and-left, and-right}
+use Rattle.machine.specs.Restricted.{Open}
 
 -- a word of w bits, all of them 1
 ones-has : (w m : ℕ) → m < w → bit ((2 ^ w - 1) - 0) m ≡ true
@@ -27,6 +28,15 @@ all-has n m h = (
       absurd (false≢true (sym (bit-shr 18446744073709551615 (64 - n) m ∙ bit-above 64 18446744073709551615 (64 - n + m) (lit< tt) (omega arith)) ∙ b)))
       (lt-or-ge m n),
   λ l. bit-shr 18446744073709551615 (64 - n) m ∙ ones-has 64 (64 - n + m) (omega arith),
+)
+
+-- all but the closed ones
+pub open-has : (every closed s : ℕ) {n : ℕ} → ((m : ℕ) → Has every m ↔ (m < n)) → ((m : ℕ) → bit s m ≡ (bit every m && not (bit closed m))) → (m : ℕ) → Has s m ↔ ((m < n) × Open closed m)
+open-has every closed s a e m = (
+  λ h.
+      let b = sym (e m) ∙ h in
+      (a m .0 (and-left (bit every m) (not (bit closed m)) b), λ k. false≢true (sym (ap not k) ∙ and-right (bit every m) (not (bit closed m)) b)),
+  λ o. e m ∙ and-true (a m .1 (o .0)) (ap not (no-bit (bit closed m) (o .1))),
 )
 
 -- a walk from the lowest

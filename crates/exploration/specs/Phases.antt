@@ -6,11 +6,12 @@ use mathlib.Core.List.{List, []}
 use lib.Bits.{bitOr}
 use Rattle.sets.specs.Bit.{Has}
 use Rattle.tables.specs.Layout.{terminals, reduction, accept}
-use Rattle.machine.specs.Exploration.{Explored, CutShort}
+use Rattle.machine.specs.Exploration.{Explored, Cut}
+use Rattle.machine.specs.Restricted.{Open}
 use Rattle.unlisted_steps.specs.declared.Spot.{Spot}
 use Rattle.exploration.specs.Reaches.{Reaches}
 use Rattle.exploration.specs.declared.Arrival.{Arrival}
-use Rattle.exploration.specs.declared.Arrival.the-variants.{Arrived, Wrong, Cut}
+use Rattle.exploration.specs.declared.Arrival.the-variants as arrival
 use Rattle.exploration.specs.declared.Sorted.{Sorted}
 use Rattle.exploration.specs.declared.Sorting.{Sorting}
 use Rattle.exploration.specs.declared.Sorting.the-variants as sorting
@@ -21,11 +22,17 @@ use Rattle.exploration.specs.declared.Passed.the-variants as passed
 abbrev pub NoneFollows : List ℕ → ℕ → ℕ → List ℕ → Type 0
 NoneFollows t limit places line = (m : ℕ) → m < terminals t → Explored t limit places line m 31
 
--- what comes of reading the line alone; st is the second area then
+-- the fresh reading for m is cut short
+pub record CutFor (t : List ℕ) (limit places : ℕ) (line : List ℕ) (m : ℕ) : Type 0 where
+  pub number : ℕ
+  pub ends : Explored t limit places line m number
+  pub cut : Cut number
+
+-- what comes of reading the line alone, as the fresh reading for 0 does; st is the second area then
 abbrev pub Arrives : List ℕ → ℕ → ℕ → List ℕ → List ℕ → Arrival → Type 0
-Arrives t limit places line st (Arrived s) = Reaches t limit places line st [] s
-Arrives t limit places line st Wrong = NoneFollows t limit places line
-Arrives t limit places line st Cut = CutShort t limit places line
+Arrives t limit places line st (arrival.Arrived s) = Reaches t limit places line st [] s
+Arrives t limit places line st arrival.Wrong = NoneFollows t limit places line
+Arrives t limit places line st arrival.Cut = CutFor t limit places line 0
 
 -- no step is left for the action a, or no place for it as a shift
 pub data Short (s : Spot) (places a : ℕ) : Type 0 where
@@ -71,14 +78,19 @@ pub record Decides (t : List ℕ) (limit places : ℕ) (line : List ℕ) (todo f
   pub behind : (m : ℕ) → Has later m → Has todo m × (j : ℕ) × (j < m) × Has todo j
   pub left-out : (m : ℕ) → Has todo m → (Has found m → ⊥) → (Has later m → ⊥) → Explored t limit places line m 31
 
+-- a pass is cut short: on the line, or behind it at a terminal of todo
+pub data PassCut (t : List ℕ) (limit places : ℕ) (line : List ℕ) (todo : ℕ) : Type 0 where
+  on-line : CutFor t limit places line 0 → PassCut t limit places line todo
+  behind-line : {m : ℕ} → Has todo m → CutFor t limit places line m → PassCut t limit places line todo
+
 abbrev pub Passes : List ℕ → ℕ → ℕ → List ℕ → ℕ → Passed → Type 0
 Passes t limit places line todo (passed.Over found later) = Decides t limit places line todo found later
 Passes t limit places line todo passed.Wrong = NoneFollows t limit places line
-Passes t limit places line todo passed.Cut = CutShort t limit places line
+Passes t limit places line todo passed.Cut = PassCut t limit places line todo
 
--- between passes: each terminal is found, wrong, or still to be decided
-pub record Deciding (t : List ℕ) (limit places : ℕ) (line : List ℕ) (todo found : ℕ) : Type 0 where
+-- between passes: each open terminal is found, wrong, or still to be decided
+pub record Deciding (t : List ℕ) (closed limit places : ℕ) (line : List ℕ) (todo found : ℕ) : Type 0 where
   pub fits : todo < 2 ^ 64
-  pub small : (m : ℕ) → Has todo m → m < terminals t
-  pub offered : (m : ℕ) → Has found m → (m < terminals t) × Explored t limit places line m 0
-  pub left-out : (m : ℕ) → m < terminals t → (Has found m → ⊥) → (Has todo m → ⊥) → Explored t limit places line m 31
+  pub unclosed : (m : ℕ) → Has todo m → (m < terminals t) × Open closed m
+  pub offered : (m : ℕ) → Has found m → (m < terminals t) × Open closed m × Explored t limit places line m 0
+  pub left-out : (m : ℕ) → m < terminals t → Open closed m → (Has found m → ⊥) → (Has todo m → ⊥) → Explored t limit places line m 31

@@ -1,4 +1,4 @@
-// Which terminals can follow a line: the fresh readings of all terminals, made together.
+// Which terminals can follow a line: the fresh readings of all open terminals, made together.
 use tables::Shape;
 use unlisted_steps::Next;
 use unlisted_steps::Spot;
@@ -10,14 +10,14 @@ ghost use Prim.Native.Nat.{ℕ, _+_, _*_, _<_, _≤_};
 ghost use lib.ListN.{length, getD, drop};
 ghost use Rattle.sets.specs.Bit.{Has, Tells};
 ghost use Rattle.tables.specs.Layout.{terminals};
-ghost use Rattle.machine.specs.Checks.{inputOk};
+ghost use Rattle.machine.specs.Checks.{inputOk, closedOk};
 ghost use Rattle.machine.proofs.Checked.{Checked};
 ghost use Rattle.unlisted_steps.specs.Spot.{Readable};
 ghost use Rattle.exploration.specs.Expected.{Explores};
 ghost use Rattle.exploration.specs.Reaches.{Reaches};
 ghost use Rattle.exploration.specs.Phases.{Arrives, Short, Puts, Sorts, Passes, Deciding};
 
-// The terminals that can follow, or that a fresh reading ran out of steps or places, or broke off.
+// The open terminals that can follow, or that the fresh reading for one of them ran out of steps or places, or broke off.
 pub enum Expected {
     Known(u64),
     Cut,
@@ -227,14 +227,15 @@ fn others(
     table: &[u16],
     cells: &[u16],
     line: &[u8],
+    closed: u64,
     second: &mut [u16],
     z: Shape,
     step_limit: u64,
     first: u64,
     undecided: u64,
 ) -> Expected
-    requires { ⌜ (Readable (now table) (now cells) z) × (inputOk (now table) (now line) ≡ true) × (0 < length (now second)) × (Deciding (now table) «step_limit» (length (now second)) (now line) undecided first) ⌝ }
-    ensures { λ r. ⌜ Explores (now (table .entry)) «step_limit» (length (now (second .entry))) (now (line .entry)) r ⌝ }
+    requires { ⌜ (Readable (now table) (now cells) z) × (closedOk (now table) closed ≡ true) × (inputOk (now table) (now line) ≡ true) × (0 < length (now second)) × (Deciding (now table) closed «step_limit» (length (now second)) (now line) undecided first) ⌝ }
+    ensures { λ r. ⌜ Explores (now (table .entry)) closed «step_limit» (length (now (second .entry))) (now (line .entry)) r ⌝ }
 {
     let mut todo = undecided;
     let mut found = first;
@@ -257,23 +258,24 @@ fn others(
     Expected::Known(found)
 }
 
-// Which terminals can follow the line, by fresh readings in the second area. The first pass goes on from a spot that the
-// caller has come to with some terminals of the line passed; it is mostly the only one, and stands apart: with two
-// callers a pass is compiled by itself, and not into the loop of the parser, which would slow it.
+// Which terminals can follow the line, but for the closed ones, by fresh readings in the second area. The first pass goes
+// on from a spot that the caller has come to with some terminals of the line passed; it is mostly the only one, and stands
+// apart: with two callers a pass is compiled by itself, and not into the loop of the parser, which would slow it.
 pub fn explore(
     table: &[u16],
     line: &[u8],
+    closed: u64,
     second: &mut [u16],
     from: Spot,
     passed: usize,
     step_limit: u64,
 ) -> Expected
-    requires { ⌜ (Checked (now table)) × (inputOk (now table) (now line) ≡ true) × (0 < length (now second)) × (passed ≤ length (now line)) × (Reaches (now table) «step_limit» (length (now second)) (now line) (now second) (drop passed (now line)) from) ⌝ }
-    ensures { λ r. ⌜ Explores (now (table .entry)) «step_limit» (length (now (second .entry))) (now (line .entry)) r ⌝ }
+    requires { ⌜ (Checked (now table)) × (closedOk (now table) closed ≡ true) × (inputOk (now table) (now line) ≡ true) × (0 < length (now second)) × (passed ≤ length (now line)) × (Reaches (now table) «step_limit» (length (now second)) (now line) (now second) (drop passed (now line)) from) ⌝ }
+    ensures { λ r. ⌜ Explores (now (table .entry)) closed «step_limit» (length (now (second .entry))) (now (line .entry)) r ⌝ }
 {
     let z = tables::shape_of(table);
     let cells = tables::cells_of(table, z);
-    let todo = all(z.terminals);
+    let todo = sets::minus(all(z.terminals), closed);
     let n = pass(
         table,
         cells,
@@ -286,8 +288,8 @@ pub fn explore(
         todo,
     );
     match n {
-        Passed::Over { found, later } => {
-            others(table, cells, line, second, z, step_limit, found, later)
+        Passed::Over { found: f, later } => {
+            others(table, cells, line, closed, second, z, step_limit, f, later)
         }
         Passed::Wrong => Expected::Known(0),
         Passed::Cut => Expected::Cut,

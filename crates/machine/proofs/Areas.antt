@@ -24,6 +24,8 @@ pub record Holds (t l st li : List ℕ) (n most : ℕ) (m : Machine) (qs x out :
   pub deep : m .depth ≡ length qs
   pub many : m .listed ≡ length out
   pub made : m .steps ≡ n
+  -- each step passes a terminal or lists a production
+  pub spent : m .steps ≡ m .position + m .listed
   pub ahead : drop (m .position) l ≡ x
   pub place : m .position + length x ≡ length l
   pub used : length qs ≤ most
@@ -119,6 +121,7 @@ held-start (a ∷ st) li pa =
       deep = refl;
       many = refl;
       made = refl;
+      spent = refl;
       ahead = refl;
       place = omega arith;
       used = omega arith;
@@ -166,6 +169,7 @@ module _ {t l st li : List ℕ} (pa : Passed t l (length st)) {n most : ℕ} {m 
         deep = omega (arith, h .deep);
         many = h .many;
         made = omega (arith, h .made);
+        spent = omega (arith, h .spent);
         ahead = sym (rest-drop (m .position) l) ∙ ap rest (h .ahead);
         place = omega (arith, h .place, er);
         used = omega arith;
@@ -195,6 +199,7 @@ module _ {t l st li : List ℕ} (pa : Passed t l (length st)) {n most : ℕ} {m 
         deep = omega (arith, u .1);
         many = omega (arith, h .many, le);
         made = omega (arith, h .made);
+        spent = omega (arith, h .spent);
         ahead = h .ahead;
         place = h .place;
         used = omega arith;

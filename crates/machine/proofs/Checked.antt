@@ -7,10 +7,10 @@ use mathlib.Core.List.{List}
 use native.Mathlib.Omega.{arith}
 use lib.ListN.{length, getD, drop, length-drop, List·getD-eq-default}
 use lib.Dec.{ltb, leb, eqb}
-use borrow.Author.Tests.{lt-ltb, le-ltb, ne-eqb, ltb-true, leb-true}
+use borrow.Author.Tests.{lt-ltb, le-ltb, le-leb, eq-eqb, ne-eqb, eqb-true, ltb-true, leb-true}
 use Rattle.sets.specs.Tests.{between}
 use Rattle.sets.proofs.HasLaws.{lt-or-ge}
-use Rattle.sets.proofs.TestLaws.{and-left, and-right, all-at, between-at, passes, neither}
+use Rattle.sets.proofs.TestLaws.{and-true, and-left, and-right, all-at, between-true, between-at, passes, neither}
 use Rattle.tables.specs.Layout.{states, terminals, nonterminals, productions, width, cellOf, leftOf, sizeOf}
 use Rattle.tables.specs.Shape.{Shaped}
 use Rattle.machine.specs.Checks.{sizesOk, productionOk, terminalCellOk, cellOk, rowOk, productionsOk, cellsOk, entriesOk, terminalOk, inputOk, tableRefusal, inputRefusal, areaRefusal, refusalOf}
@@ -63,6 +63,23 @@ checked t e =
       entries-ok = p6 .0;
     }
 
+-- and conversely
+pub sizes-pass : {t : List ℕ} → Sized t → sizesOk t ≡ true
+unfolding sizesOk
+sizes-pass {t} s =
+    let a = s .states-are in
+    let b = s .terminals-are in
+    let c = s .nonterminals-are in
+    let d = s .productions-are in
+    and-true (between-true 1 256 (states t) (a .0) (a .1))
+    (and-true (between-true 1 64 (terminals t) (b .0) (b .1))
+    (and-true (between-true 1 60 (nonterminals t) (c .0) (c .1)) (between-true 1 128 (productions t) (d .0) (d .1))))
+
+pub checked-passes : {t : List ℕ} → Checked t → tableRefusal t ≡ 0
+unfolding tableRefusal
+checked-passes {t} c =
+    rw (le-leb 4 (length t) (c .long), sizes-pass (c .sizes), le-leb (sizeOf t) (length t) (c .whole), c .productions-ok, c .cells-ok, c .entries-ok)
+
 -- what a run needs; n is the length of its stack area
 pub record Passed (t l : List ℕ) (n : ℕ) : Type 0 where
   pub table : Checked t
@@ -90,6 +107,11 @@ taken t l n k e =
       second = leb-true n k (p6 .0);
     }
 
+pub taken-passes : {t l : List ℕ} {n k : ℕ} → Taken t l n k → refusalOf t l n k ≡ 0
+unfolding refusalOf inputRefusal areaRefusal
+taken-passes {t} {l} {n} {k} ta =
+    rw (checked-passes (ta .passed .table), le-leb (length l) 65535 (ta .short), ta .passed .input-ok, lt-ltb 0 n (ta .passed .places), le-leb n k (ta .second))
+
 false-true : {A : Type 0} {b : Bool} → b ≡ false → b ≡ true → A
 false-true e k = let z : _≡_ {A = ℕ} 0 1 = cc in absurd (omega arith)
 
@@ -102,7 +124,7 @@ module _ {t : List ℕ} (pa : Checked t) where
   unfolding cellsOk rowOk
   cell-passed q x h k = all-at (λ x. cellOk t x (cellOf t q x)) (width t) (all-at (rowOk t) (states t) (pa .cells-ok) q h) x k
 
-  below-width : (x : ℕ) → x < terminals t → x < width t
+  pub below-width : (x : ℕ) → x < terminals t → x < width t
   unfolding width
   below-width x h = omega arith
 
@@ -129,6 +151,16 @@ module _ {t : List ℕ} (pa : Checked t) where
 
   pub reduce-passed : (q x : ℕ) → q < states t → x < terminals t → 1024 ≤ cellOf t q x → (cellOf t q x ≡ 4096 → ⊥) → cellOf t q x - 1024 < productions t
   reduce-passed q x h k a b = reduce-cell x (cellOf t q x) k a b (cell-passed q x h (below-width x k))
+
+  -- accept stands in the end marker's column alone
+  accept-cell : (x v : ℕ) → x < terminals t → v ≡ 4096 → cellOk t x v ≡ true → x ≡ 0
+  unfolding cellOk terminalCellOk
+  accept-cell x v k a e =
+      let s = pa .sizes .states-are .1 in
+      eqb-true x 0 (rw (lt-ltb x (terminals t) k, ne-eqb v 0 (λ z. omega arith), le-ltb v (states t) (omega arith), eq-eqb v 4096 a) at e)
+
+  pub accept-passed : (q x : ℕ) → q < states t → x < terminals t → cellOf t q x ≡ 4096 → x ≡ 0
+  accept-passed q x h k a = accept-cell x (cellOf t q x) k a (cell-passed q x h (below-width x k))
 
   pub left-passed : (r : ℕ) → r < productions t → (terminals t ≤ leftOf t r) × (leftOf t r < width t)
   unfolding productionsOk productionOk
@@ -164,12 +196,19 @@ module _ {t : List ℕ} (pa : Checked t) where
         let r = row-within (width t) q (states t) h in
         rw (length-drop, s .cells-at, s .width-is) (omega arith)
 
+-- a terminal of the input is one of the table's, but not the end marker
+terminal-passed : {t l : List ℕ} {n : ℕ} → Passed t l n → (i : ℕ) → i < length l → terminalOk t (getD l i 0) ≡ true
+unfolding inputOk
+terminal-passed {t} {l} pa i h = all-at (λ i. terminalOk t (getD l i 0)) (length l) (pa .input-ok) i h
+
+pub no-end : {t l : List ℕ} {n : ℕ} → Passed t l n → (i : ℕ) → i < length l → 0 < getD l i 0
+unfolding terminalOk
+no-end {l} pa i h = ltb-true 0 (getD l i 0) (and-left (ltb 0 (getD l i 0)) _ (terminal-passed pa i h))
+
 -- the next terminal is one of the table's, the end marker among them
 pub next-passed : {t l : List ℕ} {n : ℕ} → Passed t l n → (i : ℕ) → getD l i 0 < terminals t
-unfolding inputOk terminalOk
+unfolding terminalOk
 next-passed {t} {l} pa i =
-    ⊎-elim
-    (λ (h : i < length l).
-    ltb-true (getD l i 0) (terminals t) (and-right (ltb 0 (getD l i 0)) _ (all-at (λ i. terminalOk t (getD l i 0)) (length l) (pa .input-ok) i h)))
+    ⊎-elim (λ (h : i < length l). ltb-true (getD l i 0) (terminals t) (and-right (ltb 0 (getD l i 0)) _ (terminal-passed pa i h)))
     (λ (h : length l ≤ i). rw (List·getD-eq-default l 0 h) (pa .table .sizes .terminals-are .0))
     (lt-or-ge i (length l))

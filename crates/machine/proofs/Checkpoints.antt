@@ -60,6 +60,10 @@ module _ (t x y : List ℕ) where
   last-is : {n most : ℕ} {c d : Config} {qs v out : List ℕ} (u : List ℕ) → Path t n most c d → Other x y (conf qs v out) d → v ≡ u ++ x → Path t n most c (conf qs (u ++ y) out)
   last-is u p (other u′ ev ew) e = let eu : u′ ≡ u = append-cancel-right u′ u x (sym ev ∙ e) in rw (ew, eu) at p
 
+  pub other-tail : {n most : ℕ} {qs qs′ w z out out′ : List ℕ} (u v : List ℕ) → w ≡ u ++ x → z ≡ v ++ x → length x < length z → Path t n most (conf qs w out) (conf qs′ z out′)
+      → Path t n most (conf qs (u ++ y) out) (conf qs′ (v ++ y) out′)
+  other-tail u v ew ez h p = let o = other-path p (other u ew refl) h in last-is v (o .path) (o .same) ez
+
 -- ---- where a run has come
 
 -- the stack that the machine m holds, and the fresh readings over the line before a place that come to it
@@ -87,8 +91,7 @@ module _ {t l : List ℕ} (st li : List ℕ) (k limit second place : ℕ) (m : M
     come-path : (y : List ℕ) → Path t n p (conf (0 ∷ []) (take place l ++ y) []) (conf (q ∷ qs) (drop (m .position) (take place l) ++ y) out)
     come-path y =
         let b = length-drop place l in
-        let o = other-path t (drop place l) y w (other (take place l) (sym (take-append-drop place l)) refl) (omega (arith, b, h .place)) in
-        last-is t (drop place l) y (drop (m .position) (take place l)) (o .path) (o .same) (sym (h .ahead) ∙ cut)
+        other-tail t (drop place l) y (take place l) (drop (m .position) (take place l)) (sym (take-append-drop place l)) (sym (h .ahead) ∙ cut) (omega (arith, b, h .place)) w
 
     come-held : Come t l limit second place m
     come-held =

@@ -2,24 +2,25 @@
 use Prim.Native.Nat.{ℕ, zero, suc, _+_, _-_, _<_, _≤_, max}
 use mathlib.Core.Path.{_≡_, refl, sym, ap, _∙_}
 use mathlib.Core.Logic.{_≢_, _↔_}
-use mathlib.Core.Bool.{Bool, true, false, cond, _&&_}
+use mathlib.Core.Bool.{Bool, true, false, _&&_}
 use mathlib.Core.List.{List, [], _∷_, _++_}
 use lib.ListN.{length, take, getD, replicate, length-append, length-replicate, List·getD-append}
 use lib.Seq.{length-take-le, getD-take, getD-append-seam}
-use lib.Dec.{ltb, eqb}
+use lib.Dec.{eqb}
 use borrow.Author.Tests.{lt-ltb, le-ltb, eq-eqb, eqb-true}
 use native.Mathlib.Omega.{arith}
 use native.Mathlib.Decide.{decLt, ℕ-discrete}
-use Rattle.sets.specs.Bit.{bit, Has}
+use Rattle.sets.specs.Bit.{Has}
 use Rattle.sets.specs.Tests.{allBelow}
 use Rattle.sets.proofs.TestLaws.{all-at, all-true}
-use Rattle.tables.specs.Layout.{terminals, leftOf, lengthOf, accept, cellOf}
+use Rattle.tables.specs.Layout.{terminals}
 use Rattle.machine.specs.Checks.{inputOk, terminalOk}
 use Rattle.machine.specs.Stops.{Stops, accepted-here, wrong-here, no-steps, list-full, broken-here, stack-full}
 pub use Rattle.machine.specs.Exploration.{Comes, unlisted, Explored, shifts, stops, reads, Cut, no-steps-left, no-place-left, broken-off, Offer, CutShort}
-use Rattle.machine.specs.ComputedRun.{Machine, Next, ended, moved, accepted, topOf, actionOf, shifted, reducedTo, reduced, movedBy, Outcome, after, run, start, withNext, fresh, freshNumber, decided, expectedWord, wordOf}
+use Rattle.machine.specs.ComputedRun.{Machine, Next, ended, moved, accepted, actionOf, movedBy, Outcome, after, run, start, withNext, fresh, freshNumber, decided, expectedWord, wordOf}
 use Rattle.machine.proofs.Checked.{Checked, Passed}
-use Rattle.machine.proofs.LrMachineLaws.{Config, conf, depth, listed, Step, Path}
+use Rattle.machine.proofs.LrMachineLaws.{Config, conf, listed, Step, Path}
+use Rattle.machine.proofs.RunLaws.{either, step-each}
 use Rattle.machine.proofs.Settles.{unread, Settled, settles}
 use Rattle.machine.proofs.Areas.{Held, held, Leads, ends-at, atEnd, counted, held-start, follows}
 use Rattle.machine.proofs.Offers.{same-members, word-members}
@@ -65,33 +66,14 @@ OnFrom n (ended i m) = n ≤ m .position
 OnFrom n (moved m) = n ≤ m .position
 OnFrom n (accepted m) = n ≤ m .position
 
-either : (n : ℕ) (b : Bool) (x y : Next) → OnFrom n x → OnFrom n y → OnFrom n (cond b x y)
-either n true x y f g = f
-either n false x y f g = g
-
 step-on : (t : List ℕ) (a : ℕ) (m : Machine) → OnFrom (m .position) (movedBy t a m)
-unfolding movedBy shifted reduced reducedTo
-step-on t a m =
-    let h : m .position ≤ m .position = omega arith in
-    let k : m .position ≤ m .position + 1 = omega arith in
-    either (m .position) (ltb a 1024) _ _ (either (m .position) (ltb (m .depth) (length (m .stack))) _ _ k h)
-    (either (m .position) (eqb a accept) _ _ h
-    (either (m .position) (ltb (m .listed) (length (m .list))) _ _
-    (either (m .position) (ltb (lengthOf t (a - 1024)) (m .depth)) _ _
-    (either (m .position) (eqb (cellOf t (topOf (m .stack) (m .depth - lengthOf t (a - 1024))) (leftOf t (a - 1024))) 0) _ _ h
-    (either (m .position) (ltb (m .depth - lengthOf t (a - 1024)) (length (m .stack))) _ _ h h))
-    h)
-    h))
+step-on t a m = step-each (OnFrom (m .position)) t a m (λ n. omega arith) (λ m′ _ h. h) (λ m′ _ h. h)
 
 module _ (t l : List ℕ) where
-  choose : (n : ℕ) (b : Bool) (x y : Outcome) → n ≤ x .final .position → n ≤ y .final .position → n ≤ cond b x y .final .position
-  choose n true x y f g = f
-  choose n false x y f g = g
-
   pub run-on : (k : ℕ) (m : Machine) → m .position ≤ run t l k m .final .position
   unfolding run after
-  run-on zero m = choose (m .position) (eqb (actionOf t l m) 0) _ _ (omega arith) (omega arith)
-  run-on (suc k) m = choose (m .position) (eqb (actionOf t l m) 0) _ _ (omega arith) (go (movedBy t (actionOf t l m) m) (step-on t (actionOf t l m) m) (λ m′. run-on k m′))
+  run-on zero m = either (λ (o : Outcome). m .position ≤ o .final .position) (eqb (actionOf t l m) 0) (λ _. omega arith) (λ _. omega arith)
+  run-on (suc k) m = either (λ (o : Outcome). m .position ≤ o .final .position) (eqb (actionOf t l m) 0) (λ _. omega arith) (λ _. go (movedBy t (actionOf t l m) m) (step-on t (actionOf t l m) m) (λ m′. run-on k m′))
     where
       go : (x : Next) → OnFrom (m .position) x → ((m′ : Machine) → m′ .position ≤ run t l k m′ .final .position) → m .position ≤ after (run t l k) x .final .position
       go (ended i m′) h ih = h
@@ -113,7 +95,7 @@ module _ (t : List ℕ) where
   unfolding terminalOk
   terminal-ok m nz h = rw (lt-ltb 0 m (omega (arith, nz)), lt-ltb m (terminals t) h) refl
 
-  input-more : (line : List ℕ) (m : ℕ) → m ≢ 0 → m < terminals t → inputOk t line ≡ true → inputOk t (line ++ m ∷ []) ≡ true
+  pub input-more : (line : List ℕ) (m : ℕ) → m ≢ 0 → m < terminals t → inputOk t line ≡ true → inputOk t (line ++ m ∷ []) ≡ true
   unfolding inputOk
   input-more line m nz h e = all-true (λ j. terminalOk t (getD (line ++ m ∷ []) j 0)) (length (line ++ m ∷ [])) (λ j k. go j k (decLt j (length line)))
     where
@@ -136,7 +118,7 @@ zeros n = replicate n 0
 long : (n : ℕ) → length (zeros n) ≡ n
 long n = length-replicate n 0
 
-position-kept : (n : ℕ) (m : Machine) → atEnd n m .position ≡ m .position
+pub position-kept : (n : ℕ) (m : Machine) → atEnd n m .position ≡ m .position
 position-kept n m = ap (λ (z : Machine). z .position) (counted n m)
 
 module _ (t line : List ℕ) (a k : ℕ) (ch : Checked t) (ok : inputOk t line ≡ true) (some : 0 < k) (m : ℕ) (h : m < terminals t) where
@@ -246,12 +228,7 @@ way (shifts _ _) = found
 way (stops _ _ w s) = way-of w s
 way (reads w s) = way-of w s
 
-pub cut-some : {n : ℕ} → Cut n → n ≢ 0
-cut-some no-steps-left e = omega arith
-cut-some no-place-left e = omega arith
-cut-some broken-off e = omega arith
-
-cut-other : {n : ℕ} → Cut n → n ≢ 31
+pub cut-other : {n : ℕ} → Cut n → n ≢ 31
 cut-other no-steps-left e = omega arith
 cut-other no-place-left e = omega arith
 cut-other broken-off e = omega arith
@@ -272,31 +249,7 @@ offer-same {v = v} {w} p q = same-members v w (λ m. (λ h. q .members m .1 (p .
 pub offer-whole : {t line : List ℕ} {a k w : ℕ} → Offer t a k line w → CutShort t a k line → ⊥
 offer-whole p c = p .uncut (c .terminal) (c .number) (c .below) (c .ends) (c .cut)
 
--- each terminal is offered or wrong
-pub record Decided (t : List ℕ) (limit second : ℕ) (line : List ℕ) (word : ℕ) : Type 0 where
-  pub offered : (m : ℕ) → Has word m → (m < terminals t) × Explored t limit second line m 0
-  pub left-out : (m : ℕ) → m < terminals t → (Has word m → ⊥) → Explored t limit second line m 31
-
 module _ {t line : List ℕ} {a k : ℕ} (ch : Checked t) (ok : inputOk t line ≡ true) (some : 0 < k) where
-  same : {m i j : ℕ} → m < terminals t → Explored t a k line m i → Explored t a k line m j → i ≡ j
-  same h v w = explored-same t line a k ch ok some h v w
-
-  pub decided-offer : {word : ℕ} → Decided t a k line word → Offer t a k line word
-  decided-offer {word} d = record { members = λ m. (d .offered m, λ z. back m (z .0) (z .1) (bit word m) refl); uncut = λ m n h e c. whole m n h e c (bit word m) refl }
-    where
-      out : (m : ℕ) → bit word m ≡ false → Has word m → ⊥
-      out m e h = true-false h e
-
-      back : (m : ℕ) → m < terminals t → Explored t a k line m 0 → (b : Bool) → bit word m ≡ b → Has word m
-      back m h e true z = z
-      back m h e false z = let y = same h e (d .left-out m h (out m z)) in absurd (omega arith)
-
-      whole : (m n : ℕ) → m < terminals t → Explored t a k line m n → Cut n → (b : Bool) → bit word m ≡ b → ⊥
-      whole m n h e c true z = cut-some c (same h e (d .offered m z .1))
-      whole m n h e c false z = cut-other c (same h e (d .left-out m h (out m z)))
-
-  -- ---- computed
-
   number : {m n : ℕ} → m < terminals t → Explored t a k line m n → freshNumber t a k line m ≡ n
   number h e = explored-is t line a k ch ok some h e
 

@@ -1,6 +1,7 @@
 pub mod Checked
 pub mod Entries
 pub mod RefusalLaws
+pub mod MaskedLaws
 pub mod LrMachineLaws
 pub mod Shifts
 pub mod Settles
@@ -10,7 +11,12 @@ pub mod Areas
 pub mod Explorations
 pub mod Checkpoints
 pub mod ReadsLaws
+pub mod RunTo
 pub mod ReportLaws
+pub mod OpenPaths
+pub mod OpenOffers
+pub mod RestrictedLaws
 pub mod Spent
 pub mod Widths
 pub mod Endless
+pub mod ComparedLaws

@@ -23,11 +23,11 @@ use Rattle.machine.specs.Reads.{Reads, refuses, reads}
 use Rattle.machine.specs.ComputedRun.{Machine, Outcome, run, start, freshNumber, decided, expectedWord, expectedAt, unknownAt, wrongAt, reportOf, readingOf, reading}
 use Rattle.machine.proofs.Checked.{Checked, Passed, taken}
 use Rattle.machine.proofs.LrMachineLaws.{Config, conf, path-depth}
-use Rattle.machine.proofs.Shifts.{none, more, Sound, sound, path-sound}
+use Rattle.machine.proofs.Shifts.{Sound, sound, start-sound, path-sound}
 use Rattle.machine.proofs.Offers.{word-below}
-use Rattle.machine.proofs.Settles.{Settled, settles}
+use Rattle.machine.proofs.Settles.{unread, Settled, settles}
 use Rattle.machine.proofs.Areas.{Holds, Held, held, Leads, ends-at, atEnd, counted, held-start, follows}
-use Rattle.machine.proofs.Explorations.{input-front, offer-same, offer-whole, offered, cut-short}
+use Rattle.machine.proofs.Explorations.{position-kept, input-front, offer-same, offer-whole, offered, cut-short}
 
 -- ---- what is reported is what is computed
 
@@ -89,21 +89,21 @@ module _ {t l st li : List ℕ} (a k : ℕ) (pa : Passed t l (length st)) (place
   report-is (held h) (expects line word e o) = wrong-is h line e word o
   report-is (held h) (unknown line e c) = cut-is h line e c
 
--- ---- a run ends within its input
+-- ---- where a run ends
 
-pub ends-within : (t l st li : List ℕ) (a : ℕ) → Passed t l (length st) → run t l a (start st li) .final .position ≤ length l
-ends-within t l st li a pa = go (settles t (length st) (length li) a 0 [] l [] (pa .places) (omega arith))
-  where
-    at-last : {n most left i : ℕ} {c : Config} {m : Machine} → Held t l st li n most m c → Stops t (record { steps = left; stack = length st; list = length li }) c i
-        → run t l a (start st li) ≡ run t l left m → run t l a (start st li) .final .position ≤ length l
-    at-last {i = i} {m = m} (held h) why e =
-        let k = ap (λ (z : Machine). z .position) (counted i m) in
-        rw (e ∙ ends-at pa h why) (omega (arith, h .place, k))
+module _ (t l st li : List ℕ) (a : ℕ) (pa : Passed t l (length st)) where
+  -- where the machine stops to which it comes
+  pub ends-there : {n most left i : ℕ} {c : Config} {m : Machine} → Held t l st li n most m c → Stops t (record { steps = left; stack = length st; list = length li }) c i
+      → run t l a (start st li) ≡ run t l left m → run t l a (start st li) .final .position + unread c ≡ length l
+  ends-there {i = i} {m = m} (held h) why e = rw (e ∙ ends-at pa h why, position-kept i m) (h .place)
 
-    go : Settled t (length st) (length li) a (conf (0 ∷ []) l []) → run t l a (start st li) .final .position ≤ length l
-    go s =
-        let w = follows pa (s .path) (held-start st li pa) (omega (arith, s .within, pa .places)) (s .fits) in
-        at-last (w .holds) (s .why) (rw (s .budget) at (w .runs (s .left)))
+  -- within its input
+  pub ends-within : run t l a (start st li) .final .position ≤ length l
+  ends-within =
+      let s = settles t (length st) (length li) a 0 [] l [] (pa .places) (omega arith) in
+      let w = follows pa (s .path) (held-start st li pa) (omega (arith, s .within, pa .places)) (s .fits) in
+      let z = ends-there (w .holds) (s .why) (rw (s .budget) at (w .runs (s .left))) in
+      omega (arith, z)
 
 -- ---- a faithful reading is the computed one
 
@@ -161,13 +161,13 @@ module _ (t l st li se : List ℕ) (a : ℕ) where
 
     -- past the end nothing is ahead
     at-31 : (steps : ℕ) {c : Config} → Sound t l c → (r : Report) × Reports t l a (length se) steps c 31 r
-    at-31 steps (sound {qs} {x} {out} i b e) = go (decLt i (length l))
+    at-31 steps (sound {q} {qs} {x} {out} i b e) = go (decLt i (length l))
       where
-        go : Dec (i < length l) → (r : Report) × Reports t l a (length se) steps (conf qs x out) 31 r
+        go : Dec (i < length l) → (r : Report) × Reports t l a (length se) steps (conf (q ∷ qs) x out) 31 r
         go (yes k) = explored-at steps i (omega arith) e
         go (no k) = explored-at steps (length l) (omega arith) (drop-of-length-le l {i = length l} (omega arith) ∙ sym (drop-of-length-le l {i = i} (omega (arith, k))) ∙ e)
 
-    some-report : (steps : ℕ) {b : Allowed} {c : Config} {i : ℕ} → Sound t l c → Stops t b c i → (r : Report) × Reports t l a (length se) steps c i r
+    pub some-report : (steps : ℕ) {b : Allowed} {c : Config} {i : ℕ} → Sound t l c → Stops t b c i → (r : Report) × Reports t l a (length se) steps c i r
     some-report steps h (accepted-here _ _) = (_, counts 0 (λ z. omega arith))
     some-report steps h (wrong-here _) = at-31 steps h
     some-report steps h (no-steps _ _) = (_, counts 32 (λ z. omega arith))
@@ -180,7 +180,7 @@ module _ (t l st li se : List ℕ) (a : ℕ) where
       where
         go : Settled t (length st) (length li) a (conf (0 ∷ []) l []) → Faithful t l st li se a (reading t l st li se a)
         go s =
-            let p = some-report (s .steps) (path-sound t l (length st) pa (sound 0 (more (pa .table .sizes .states-are .0) none) refl) (s .path)) (s .why) in
+            let p = some-report (s .steps) (path-sound t l (length st) pa (start-sound t l (length st) pa) (s .path)) (s .why) in
             let f : Faithful t l st li se a (record { report = p .0; stack = covered (s .most) (reverse (s .states)) st; list = s .productions ++ drop (length (s .productions)) li; second = replicate (length se) 0 }) =
             record {
               steps = s .steps;

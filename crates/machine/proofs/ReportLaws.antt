@@ -1,18 +1,15 @@
 -- The parts of a faithful reading's report, and that no two reports have the same numbers.
 use Prim.Native.Nat.{ℕ, _+_}
-use mathlib.Core.Path.{_≡_, refl, sym, ap, _∙_}
+use mathlib.Core.Path.{_≡_, refl, sym, ap}
 use mathlib.Core.Logic.{_≢_}
-use mathlib.Core.List.{List, _++_, reverse}
-use lib.ListN.{length, getD, length-reverse, length-append, length-replicate}
+use mathlib.Core.List.{List, reverse}
+use lib.ListN.{length, getD, length-reverse, length-replicate}
 use lib.Seq.{take-at}
 use native.Mathlib.Omega.{arith}
-use Rattle.sets.specs.Bit.{bit, count}
 use Rattle.sets.proofs.CoveredLaws.{covered-length, covered-exact}
-use Rattle.tables.specs.Layout.{terminals}
-use Rattle.machine.specs.Exploration.{Offer}
 pub use Rattle.machine.specs.Report.{Report, refused, ended, wrong-at, unknown-at, numbersOf, Reading, numberOf, stepsOf, depthOf, productionsOf, positionOf, expectedOf, sizeOf}
 pub use Rattle.machine.specs.Faithful.{Stops, accepted-here, wrong-here, no-steps, list-full, broken-here, stack-full, Reports, counts, expects, unknown, Faithful}
-use Rattle.machine.proofs.LrMachineLaws.{Config, conf, depth, listed, own-steps, path-last}
+use Rattle.machine.proofs.LrMachineLaws.{Config, depth, listed, own-steps, path-last}
 
 -- the numbers tell the report: they are 1, 4 or 7 in number, and the first is 31 or 46 where they are 7
 pub numbers-tell : (a b : Report) → numbersOf a ≡ numbersOf b → a ≡ b
@@ -34,7 +31,7 @@ numbers-tell (unknown-at _ _ _ _) (refused _) e = let z : _≡_ {A = ℕ} 0 1 = 
 numbers-tell (unknown-at _ _ _ _) (ended _ _ _ _) e = let z : _≡_ {A = ℕ} 0 1 = cc in absurd (omega arith)
 numbers-tell (unknown-at _ _ _ _) (wrong-at _ _ _ _ _ _) e = let z : _≡_ {A = ℕ} 46 31 = cc in absurd (omega arith)
 
-abbrev part : Report → ℕ → ℕ
+abbrev pub part : Report → ℕ → ℕ
 part r i = getD (numbersOf r) i 0
 
 -- the number of the report of an end: 31 can be reported as 46
@@ -45,14 +42,6 @@ pub data Shown : ℕ → ℕ → Type 0 where
 pub shown-is : {n i k : ℕ} → Shown n i → i ≡ k → k ≢ 46 → n ≡ k
 shown-is as-is e ne = e
 shown-is in-place e ne = absurd (ne (sym e))
-
--- the line before the position, and what is ahead, are the input
-pub record Located (t l : List ℕ) (a k : ℕ) (x : List ℕ) (r : Report) : Type 0 where
-  pub line : List ℕ
-  pub whole : line ++ x ≡ l
-  pub place : part r 4 ≡ length line
-  -- 31 carries the offer behind that line
-  pub offer : part r 0 ≡ 31 → Offer t a k line (part r 5) × (part r 6 ≡ count (bit (part r 5)) (terminals t))
 
 module _ {t l : List ℕ} {a k steps : ℕ} where
   part-0 : {c : Config} {n : ℕ} {r : Report} → Reports t l a k steps c n r → Shown n (part r 0)
@@ -75,11 +64,6 @@ module _ {t l : List ℕ} {a k steps : ℕ} where
   part-3 (expects u w e o) = refl
   part-3 (unknown u e s) = refl
 
-  located : {qs x out : List ℕ} {n : ℕ} {r : Report} → Reports t l a k steps (conf qs x out) n r → n ≡ 31 → Located t l a k x r
-  located (counts n ne) z = absurd (ne z)
-  located (expects u w e o) _ = record { line = u; whole = e; place = refl; offer = λ _. (o, refl) }
-  located (unknown u e s) _ = record { line = u; whole = e; place = refl; offer = λ z. absurd (omega arith) }
-
 module _ {t l st li se : List ℕ} {a : ℕ} {r : Reading} (f : Faithful t l st li se a r) where
   pub number-is : Shown (f .number) (numberOf r)
   number-is = part-0 (f .reported)
@@ -90,17 +74,11 @@ module _ {t l st li se : List ℕ} {a : ℕ} {r : Reading} (f : Faithful t l st 
   pub depth-is : depthOf r ≡ length (f .states)
   depth-is = part-2 (f .reported)
 
+  pub listed-is : part (r .report) 3 ≡ length (f .productions)
+  listed-is = part-3 (f .reported)
+
   pub productions-are : productionsOf r ≡ f .productions
-  productions-are = rw (part-3 (f .reported), f .listing) (take-at (f .productions) _ _ refl)
-
-  pub located-at : f .number ≡ 31 → Located t l a (length se) (f .ahead) (r .report)
-  located-at e = located (f .reported) e
-
-  pub position-is : f .number ≡ 31 → positionOf r + length (f .ahead) ≡ length l
-  position-is e =
-      let z = located-at e in
-      let w = sym (length-append (z .line) (f .ahead)) ∙ ap length (z .whole) in
-      omega (arith, z .place, w)
+  productions-are = rw (listed-is, f .listing) (take-at (f .productions) _ _ refl)
 
   -- the areas keep their lengths
   pub stack-long : length (r .stack) ≡ length st

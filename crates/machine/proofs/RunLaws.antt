@@ -1,13 +1,25 @@
 -- Laws of the computed run: each case under the tests that lead to it.
-use mathlib.Core.Path.{_≡_, refl, ap}
+use mathlib.Core.Path.{_≡_, refl, sym, ap, _∙_}
+use mathlib.Core.Bool.{Bool, true, false, cond, false≢true}
+use mathlib.Core.Logic.{⊎-elim}
 use mathlib.Core.List.{List}
 use Prim.Native.Nat.{ℕ, zero, suc, _+_, _-_, _<_, _≤_}
 use native.Mathlib.Nat.{not-suc-le-zero}
 use native.Mathlib.Numerals.{sub-one}
-use lib.ListN.{length, set}
-use borrow.Author.Tests.{lt-ltb, le-ltb, eq-eqb, ne-eqb}
-use Rattle.tables.specs.Layout.{cellOf, lengthOf, leftOf}
-use Rattle.machine.specs.ComputedRun.{Machine, ended, moved, accepted, popped, topOf, actionOf, shifted, reducedTo, reduced, movedBy, after, run}
+use native.Mathlib.Omega.{arith}
+use lib.ListN.{length, getD, set, length-set}
+use lib.Seq.{getD-set-same, getD-set-other}
+use lib.Dec.{ltb, eqb}
+use borrow.Author.Tests.{lt-ltb, le-ltb, eq-eqb, ne-eqb, ltb-true, ltb-false}
+use Rattle.sets.proofs.HasLaws.{lt-or-ge}
+use Rattle.tables.specs.Layout.{accept, cellOf, lengthOf, leftOf}
+use Rattle.machine.specs.ComputedRun.{Machine, Next, ended, moved, accepted, popped, topOf, actionOf, shifted, reducedTo, reduced, movedBy, Outcome, after, run}
+use Rattle.machine.specs.RunTo.{actionTo, runTo}
+
+-- what holds in both cases of a test
+pub either : {A : Type 0} (P : A → Type 0) (b : Bool) {x y : A} → (b ≡ true → P x) → (b ≡ false → P y) → P (cond b x y)
+either P true f g = f refl
+either P false f g = g refl
 
 pub popped-step : (s : List ℕ) (d k : ℕ) → 0 < k → popped (set s (d - 1) 0) (d - 1) (k - 1) ≡ popped s d k
 unfolding popped
@@ -17,6 +29,28 @@ popped-step s d (suc k) h = ap (λ (n : ℕ). popped (set s (d - 1) 0) (d - 1) n
 pub popped-none : (s : List ℕ) (d k : ℕ) → k ≡ 0 → popped s d k ≡ s
 unfolding popped
 popped-none s d k e = rw e refl
+
+pub popped-length : (s : List ℕ) (d n : ℕ) → length (popped s d n) ≡ length s
+unfolding popped
+popped-length s d zero = refl
+popped-length s d (suc n) = popped-length (set s (d - 1) 0) (d - 1) n ∙ length-set s (d - 1) 0
+
+-- the places below stay
+pub popped-at : (s : List ℕ) (d n i : ℕ) → n ≤ d → i < d - n → getD (popped s d n) i 0 ≡ getD s i 0
+unfolding popped
+popped-at s d zero i h k = refl
+popped-at s d (suc n) i h k =
+    popped-at (set s (d - 1) 0) (d - 1) n i (omega arith) (omega arith) ∙ getD-set-other s (d - 1) i 0 0 (λ e. omega arith)
+
+-- one state more on a stack of d
+pub states-more : (st : List ℕ) (d q n : ℕ) → d < length st → q < n → ((i : ℕ) → i < d → getD st i 0 < n) → (i : ℕ) → i < d + 1 → getD (set st d q) i 0 < n
+states-more st d q n h b f i k =
+    ⊎-elim
+    (λ (l : i < d). rw (getD-set-other st d i q 0 (λ e. omega arith)) (f i l))
+    (λ (g : d ≤ i).
+    let e : i ≡ d = omega arith in
+    rw (e, getD-set-same st d q 0 h) b)
+    (lt-or-ge i d)
 
 module _ (r n d q : ℕ) (m : Machine) where
   pub reducedTo-none : q ≡ 0 → reducedTo r n d q m ≡ ended 35 m
@@ -71,18 +105,95 @@ module _ (q : ℕ) (m : Machine) where
   unfolding shifted
   shifted-full h = rw (le-ltb (m .depth) (length (m .stack)) h)
 
--- the run, by the test of its first action
+-- ---- the run up to a closed terminal, and the run
+
+-- the action over a line: 0 where a closed terminal stands at its end, else the run's
+pub data Acts (t line : List ℕ) (barred : Bool) (m : Machine) : Type 0 where
+  at-bar : barred ≡ true → length line ≤ m .position → actionTo t line barred m ≡ 0 → Acts t line barred m
+  no-bar : (barred ≡ true → m .position < length line) → actionTo t line barred m ≡ actionOf t line m → Acts t line barred m
+
+module _ (t line : List ℕ) (barred : Bool) (m : Machine) where
+  pub acts : Acts t line barred m
+  unfolding actionTo
+  acts = go barred (ltb (m .position) (length line)) refl refl
+    where
+      go : (b c : Bool) → barred ≡ b → ltb (m .position) (length line) ≡ c → Acts t line barred m
+      go true true eb ec = no-bar (λ _. ltb-true (m .position) (length line) ec) (rw (eb, ec) refl)
+      go true false eb ec = at-bar eb (ltb-false (m .position) (length line) ec) (rw (eb, ec) refl)
+      go false c eb ec = no-bar (λ e. absurd (false≢true (sym eb ∙ e))) (rw eb refl)
+
+  -- the run, by the test of its first action
+  pub run-to-wrong : (k : ℕ) → actionTo t line barred m ≡ 0 → runTo t line barred k m ≡ record { number = 31; final = m }
+  unfolding runTo
+  run-to-wrong zero e = rw (eq-eqb (actionTo t line barred m) 0 e)
+  run-to-wrong (suc k) e = rw (eq-eqb (actionTo t line barred m) 0 e)
+
+  pub run-to-none : (k : ℕ) → k ≡ 0 → (actionTo t line barred m ≡ 0 → ⊥) → runTo t line barred k m ≡ record { number = 32; final = m }
+  unfolding runTo
+  run-to-none k z e = rw (z, ne-eqb (actionTo t line barred m) 0 e)
+
+  pub run-to-more : (k : ℕ) → 0 < k → (actionTo t line barred m ≡ 0 → ⊥)
+      → runTo t line barred k m ≡ after (runTo t line barred (k - 1)) (movedBy t (actionTo t line barred m) m)
+  unfolding runTo
+  run-to-more zero h e = absurd (not-suc-le-zero h)
+  run-to-more (suc k) h e = rw (ne-eqb (actionTo t line barred m) 0 e, sub-one (suc k))
+
+-- a relation of ends that holds of each end and itself, and of an end at the bar and the run from there, holds of both runs
+module _ (t line : List ℕ) (barred : Bool) (P : Outcome → Outcome → Type 0) (same : (o : Outcome) → P o o)
+    (stopped : barred ≡ true → (k : ℕ) (m : Machine) → P (record { number = 31; final = m }) (run t line k m)) where
+  after-both : (k : ℕ) → ((m : Machine) → P (runTo t line barred k m) (run t line k m)) → (x : Next) → P (after (runTo t line barred k) x) (after (run t line k) x)
+  unfolding after
+  after-both k ih (ended n m) = same _
+  after-both k ih (moved m) = ih m
+  after-both k ih (accepted m) = same _
+
+  pub both-runs : (k : ℕ) (m : Machine) → P (runTo t line barred k m) (run t line k m)
+  unfolding runTo run
+  both-runs zero m = go (acts t line barred m)
+    where
+      go : Acts t line barred m → P (runTo t line barred zero m) (run t line zero m)
+      go (at-bar b h z) = rw (run-to-wrong t line barred m zero z) (stopped b zero m)
+      go (no-bar h e) = rw e (same _)
+  both-runs (suc k) m = go (acts t line barred m) (λ m′. both-runs k m′)
+    where
+      go : Acts t line barred m → ((m : Machine) → P (runTo t line barred k m) (run t line k m)) → P (runTo t line barred (suc k) m) (run t line (suc k) m)
+      go (at-bar b h z) ih = rw (run-to-wrong t line barred m (suc k) z) (stopped b (suc k) m)
+      go (no-bar h e) ih = rw e (choose (eqb (actionOf t line m) 0))
+        where
+          choose : (b : Bool) → P (cond b (record { number = 31; final = m }) (after (runTo t line barred k) (movedBy t (actionOf t line m) m)))
+              (cond b (record { number = 31; final = m }) (after (run t line k) (movedBy t (actionOf t line m) m)))
+          choose true = same _
+          choose false = after-both k ih (movedBy t (actionOf t line m) m)
+
+pub run-to-whole : (t l : List ℕ) (k : ℕ) (m : Machine) → runTo t l false k m ≡ run t l k m
+run-to-whole t l = both-runs t l false (λ o p. o ≡ p) (λ o. refl) (λ e. absurd (false≢true e))
+
 module _ (t l : List ℕ) (m : Machine) where
   pub run-wrong : (k : ℕ) → actionOf t l m ≡ 0 → run t l k m ≡ record { number = 31; final = m }
-  unfolding run
-  run-wrong zero e = rw (eq-eqb (actionOf t l m) 0 e)
-  run-wrong (suc k) e = rw (eq-eqb (actionOf t l m) 0 e)
+  unfolding actionTo
+  run-wrong k e = sym (run-to-whole t l k m) ∙ run-to-wrong t l false m k e
 
   pub run-none : (k : ℕ) → k ≡ 0 → (actionOf t l m ≡ 0 → ⊥) → run t l k m ≡ record { number = 32; final = m }
-  unfolding run
-  run-none k z e = rw (z, ne-eqb (actionOf t l m) 0 e)
+  unfolding actionTo
+  run-none k z e = sym (run-to-whole t l k m) ∙ run-to-none t l false m k z e
 
   pub run-more : (k : ℕ) → 0 < k → (actionOf t l m ≡ 0 → ⊥) → run t l k m ≡ after (run t l (k - 1)) (movedBy t (actionOf t l m) m)
-  unfolding run
-  run-more zero h e = absurd (not-suc-le-zero h)
-  run-more (suc k) h e = rw (ne-eqb (actionOf t l m) 0 e, sub-one (suc k))
+  unfolding actionTo
+  run-more k h e =
+      sym (run-to-whole t l k m) ∙ run-to-more t l false m k h e
+      ∙ after-both t l false (λ o p. o ≡ p) (λ o. refl) (λ e. absurd (false≢true e)) (k - 1) (run-to-whole t l (k - 1)) (movedBy t (actionOf t l m) m)
+
+-- whatever comes of a step: an end where it stands, or one step more with a position no less
+pub step-each : (P : Next → Type 0) (t : List ℕ) (a : ℕ) (m : Machine) → ((n : ℕ) → P (ended n m))
+    → ((m′ : Machine) → m′ .steps ≡ m .steps + 1 → m .position ≤ m′ .position → P (moved m′)) → ((m′ : Machine) → m′ .steps ≡ m .steps + 1 → m .position ≤ m′ .position → P (accepted m′))
+    → P (movedBy t a m)
+unfolding movedBy shifted reduced reducedTo
+step-each P t a m e f g =
+    either P (ltb a 1024) (λ _. either P (ltb (m .depth) (length (m .stack))) (λ _. f _ refl (omega arith)) (λ _. e 33))
+    (λ _. either P (eqb a accept) (λ _. g _ refl (omega arith))
+    (λ _. either P (ltb (m .listed) (length (m .list)))
+    (λ _. either P (ltb (lengthOf t (a - 1024)) (m .depth))
+    (λ _. either P (eqb (cellOf t (topOf (m .stack) (m .depth - lengthOf t (a - 1024))) (leftOf t (a - 1024))) 0) (λ _. e 35)
+    (λ _. either P (ltb (m .depth - lengthOf t (a - 1024)) (length (m .stack))) (λ _. f _ refl (omega arith)) (λ _. e 33)))
+    (λ _. e 35))
+    (λ _. e 34)))

@@ -2,27 +2,24 @@
 use Prim.Native.Nat.{ℕ, zero, suc, _+_, _-_, _%_, _^_, _<_, _≤_}
 use mathlib.Core.Path.{_≡_, refl, sym, ap, subst, _∙_}
 use mathlib.Core.Logic.{_≢_, _↔_}
-use mathlib.Core.Bool.{Bool, true, false, cond}
 use mathlib.Core.List.{List}
 use lib.ListN.{length}
-use lib.Dec.{ltb, eqb}
 use borrow.Author.Tests.{ne-eqb}
 use native.Mathlib.Omega.{arith}
 use native.Mathlib.Nat.{mod-lt, mod-eq-of-lt}
 use lib.Pow.{pow-pos}
 use native.Mathlib.Decide.{ℕ-discrete}
-use Rattle.tables.specs.Layout.{leftOf, lengthOf, accept, cellOf}
 use Rattle.machine.specs.Checks.{refusalOf}
 use Rattle.machine.specs.Report.{Reading, stepsOf}
-use Rattle.machine.specs.Faithful.{Allowed, Stops, accepted-here, wrong-here, no-steps, list-full, broken-here, stack-full, Faithful}
+use Rattle.machine.specs.Faithful.{Allowed, Stops, accepted-here, wrong-here, no-steps, list-full, broken-here, stack-full}
 use Rattle.machine.specs.Reads.{Reads, refuses, reads}
-use Rattle.machine.specs.ComputedRun.{Machine, Next, ended, moved, accepted, topOf, actionOf, movedBy, shifted, reduced, reducedTo, Outcome, after, run, start, reading}
+use Rattle.machine.specs.ComputedRun.{Machine, Next, ended, moved, accepted, actionOf, movedBy, Outcome, after, run, start, reading}
 use Rattle.machine.specs.Widths as widths
 use Rattle.machine.specs.Widths.{counting, RunsIn, wrong, spent, stops, accepts, goes-on, ReadsIn, OldLimits}
 use Rattle.machine.proofs.LrMachineLaws.{Config, own-steps}
 use Rattle.machine.proofs.ReportLaws.{count-is}
-use Rattle.machine.proofs.RunLaws.{run-wrong, run-none}
-use Rattle.machine.proofs.ReadsLaws.{unrefused, refused-is, reads-some, reads-exactly}
+use Rattle.machine.proofs.RunLaws.{step-each, run-wrong, run-none}
+use Rattle.machine.proofs.ReadsLaws.{unrefused, refused-is, reads-exactly}
 
 -- ---- no count passes its limit
 
@@ -55,21 +52,8 @@ Counts n (ended i m) = Unit {0}
 Counts n (moved m) = m .steps ≡ n + 1
 Counts n (accepted m) = m .steps ≡ n + 1
 
-either : (n : ℕ) (b : Bool) (x y : Next) → Counts n x → Counts n y → Counts n (cond b x y)
-either n true x y f g = f
-either n false x y f g = g
-
 step-counts : (t : List ℕ) (a : ℕ) (m : Machine) → Counts (m .steps) (movedBy t a m)
-unfolding movedBy shifted reduced reducedTo
-step-counts t a m =
-    either (m .steps) (ltb a 1024) _ _ (either (m .steps) (ltb (m .depth) (length (m .stack))) _ _ refl tt)
-    (either (m .steps) (eqb a accept) _ _ refl
-    (either (m .steps) (ltb (m .listed) (length (m .list))) _ _
-    (either (m .steps) (ltb (lengthOf t (a - 1024)) (m .depth)) _ _
-    (either (m .steps) (eqb (cellOf t (topOf (m .stack) (m .depth - lengthOf t (a - 1024))) (leftOf t (a - 1024))) 0) _ _ tt
-    (either (m .steps) (ltb (m .depth - lengthOf t (a - 1024)) (length (m .stack))) _ _ refl tt))
-    tt)
-    tt))
+step-counts t a m = step-each (Counts (m .steps)) t a m (λ n. tt) (λ m′ e _. e) (λ m′ e _. e)
 
 -- a is the limit as it is handed over
 module _ (w : ℕ) (t l : List ℕ) (a : ℕ) where

@@ -1,9 +1,10 @@
--- "The reader refuses": 21 to 24 and 44 for the table, 25 and 26 for the input, 27 and 45 for the stack areas, in this order.
-use Prim.Native.Nat.{ℕ, _-_}
+-- "The reader refuses": 21 to 24 and 44 for the table, 25 and 26 for the input, 27 and 45 for the stack areas, in this order; and 50 for a word of closed terminals.
+use Prim.Native.Nat.{ℕ, _-_, _^_}
 use mathlib.Core.List.{List}
 use mathlib.Core.Bool.{Bool, true, false, not, cond, _&&_}
 use lib.ListN.{length, getD}
 use lib.Dec.{ltb, leb, eqb}
+use Rattle.sets.specs.Bit.{bit}
 use Rattle.sets.specs.Tests.{allBelow, between, unless, firstRefusal}
 use Rattle.tables.specs.Layout.{states, terminals, nonterminals, productions, width, leftOf, lengthOf, enteredOf, accept, cellOf, sizeOf}
 
@@ -80,6 +81,14 @@ areaRefusal n k = unless (ltb 0 n) 27 (unless (leb n k) 45 0)
 unfoldable pub refusalOf : List ℕ → List ℕ → ℕ → ℕ → ℕ
 refusalOf t l n k = firstRefusal (tableRefusal t) (firstRefusal (inputRefusal t l) (areaRefusal n k))
 
+-- card 10: "50 the word has bit 0 or a bit at or above T"; a word without such bits is less than 2 to the power of T, `closed-ok` of proofs/RefusalLaws.antt
+unfoldable pub closedOk : List ℕ → ℕ → Bool
+closedOk t closed = not (bit closed 0) && ltb closed (2 ^ terminals t)
+
+-- "after 45"
+unfoldable pub restrictedRefusal : List ℕ → ℕ → List ℕ → ℕ → ℕ → ℕ
+restrictedRefusal t closed l n k = firstRefusal (refusalOf t l n k) (unless (closedOk t closed) 50 0)
+
 -- the numbers of the refusals: just these come, by proofs/RefusalLaws.antt
 pub data TableRefusal : ℕ → Type 0 where
   table-short : TableRefusal 21
@@ -94,3 +103,7 @@ pub data Refusal : ℕ → Type 0 where
   terminal-wrong : Refusal 26
   no-stack : Refusal 27
   second-short : Refusal 45
+
+pub data RestrictedRefusal : ℕ → Type 0 where
+  as-ever : {n : ℕ} → Refusal n → RestrictedRefusal n
+  closed-wrong : RestrictedRefusal 50

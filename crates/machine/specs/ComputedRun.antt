@@ -7,10 +7,10 @@ use mathlib.Core.Bool.{Bool, cond, _||_}
 use lib.ListN.{length, getD, set, take, replicate}
 use lib.Dec.{ltb, eqb}
 use lib.Count.{ones}
-use Rattle.sets.specs.Bit.{one-if}
+use Rattle.sets.specs.Bit.{bit, one-if}
 use Rattle.sets.specs.Tests.{allBelow}
-use Rattle.tables.specs.Layout.{terminals, leftOf, lengthOf, accept, cellOf}
-use Rattle.machine.specs.Checks.{refusalOf}
+use Rattle.tables.specs.Layout.{states, terminals, nonterminals, productions, leftOf, lengthOf, enteredOf, accept, cellOf, build}
+use Rattle.machine.specs.Checks.{refusalOf, restrictedRefusal}
 use Rattle.machine.specs.Report.{Report, refused, wrong-at, unknown-at, Reading}
 
 -- stack and list area, how many places of each are in use, the position in the input and the steps made
@@ -153,3 +153,21 @@ reading t l st li se a =
     cond (eqb (refusalOf t l (length st) (length se)) 0)
     (readingOf t l a (length se) (run t l a (start st li)))
     (record { report = refused (refusalOf t l (length st) (length se)); stack = st; list = li; second = se })
+
+-- ---- the restricted reading
+
+-- a cell, or 0 in the column of a closed terminal
+abbrev pub maskedCell : ℕ → List ℕ → ℕ → ℕ → ℕ
+maskedCell closed t q x = cond (bit closed x) 0 (cellOf t q x)
+
+-- a table with 0 in each column of a closed terminal
+unfoldable pub masked : ℕ → List ℕ → List ℕ
+masked closed t =
+    build (states t) (terminals t) (nonterminals t) (productions t) (leftOf t) (lengthOf t) (enteredOf t) (maskedCell closed t)
+
+-- the choir's reading is the publisher's of that table; `restricted-exactly` of proofs/RestrictedLaws.antt proves it equal to the definition `RestrictedReads`
+unfoldable pub restrictedReading : List ℕ → ℕ → List ℕ → List ℕ → List ℕ → List ℕ → ℕ → Reading
+restrictedReading t closed l st li se a =
+    cond (eqb (restrictedRefusal t closed l (length st) (length se)) 0)
+    (readingOf (masked closed t) l a (length se) (run (masked closed t) l a (start st li)))
+    (record { report = refused (restrictedRefusal t closed l (length st) (length se)); stack = st; list = li; second = se })

@@ -5,5 +5,8 @@ pub mod Exploration
 pub mod Report
 pub mod Faithful
 pub mod Reads
+pub mod Restricted
+pub mod Compared
 pub mod Widths
 pub mod ComputedRun
+pub mod RunTo

@@ -1,4 +1,4 @@
--- The reader's definition for every table, input, step limit and three areas: it refuses and changes nothing, or its reading is faithful.
+-- The publisher's reading, defined for every table, input, step limit and three areas: it refuses and changes nothing, or is faithful. A choir's is that of Restricted.antt.
 -- `reading` of ComputedRun.antt is the one reading of this kind: `reads-exactly` of proofs/ReadsLaws.antt.
 use Prim.Native.Nat.{ℕ}
 use mathlib.Core.Path.{_≡_}

@@ -1,12 +1,15 @@
 -- What the checks and the state between steps give each call of the loop.
-use mathlib.Core.Path.{_≡_, sym, _∙_}
+use mathlib.Core.Path.{_≡_, sym, ap, _∙_}
+use mathlib.Core.Bool.{Bool, true, false, cond, not, _&&_}
 use mathlib.Core.List.{List, _∷_, []}
 use Prim.Native.Nat.{ℕ, zero, suc, _+_, _-_, _*_, _^_, _<_, _≤_, zero-le}
 use native.Mathlib.Omega.{arith}
 use lib.ListN.{length, set, getD, drop, length-set}
 use lib.Seq.{getD-set-same}
+use lib.Dec.{ltb}
 use Rattle.tables.specs.Layout.{states, terminals, width, cellOf}
 use Rattle.machine.specs.ComputedRun.{topOf, actionOf}
+use Rattle.machine.specs.RunTo.{actionTo}
 use Rattle.tables.specs.Shape.{Shaped}
 use Rattle.tables.specs.declared.Shape.{Shape}
 use Rattle.tables.proofs.Places.{cell-up}
@@ -40,6 +43,11 @@ held-start st a p s e =
       top-is = sym first;
     }
 
+-- an action that is not 0 stands at no bar
+unbarred : (b : Bool) {x v : ℕ} → x ≡ cond b 0 v → (x ≡ 0 → ⊥) → x ≡ v
+unbarred true e nz = absurd (nz e)
+unbarred false e nz = e
+
 in-width : (t : List ℕ) {x : ℕ} → x < terminals t → x < width t
 unfolding width
 in-width t h = omega arith
@@ -56,23 +64,27 @@ module _ {t cs st li : List ℕ} {z : Shape} {s : State} (h : Held t cs st li z 
         rw (h .rows) (cell-within (h .checked) (h .shaped) (s .top) (getD l (s .position) 0) top-in (in-width t (next-passed p (s .position)))) in
         omega arith
 
-    module _ {x : ℕ} (ex : x ≡ getD cs (getD l (s .position) 0 + s .top * z .width) 0) where
-      cell-is : x ≡ cellOf t (s .top) (getD l (s .position) 0)
-      cell-is = ex ∙ rw (h .rows) (cell-up (h .shaped) (s .top) (getD l (s .position) 0))
+    cell-value : getD cs (getD l (s .position) 0 + s .top * z .width) 0 ≡ cellOf t (s .top) (getD l (s .position) 0)
+    cell-value = rw (h .rows) (cell-up (h .shaped) (s .top) (getD l (s .position) 0))
 
-      pub action-is : x ≡ actionOf t l (machineOf st li s)
-      unfolding actionOf
-      action-is = rw (← h .top-is) cell-is
+    module _ (barred : Bool) {x : ℕ} (ex : x ≡ cond (barred && not (ltb (s .position) (length l))) 0 (getD cs (getD l (s .position) 0 + s .top * z .width) 0)) where
+      pub action-is : x ≡ actionTo t l barred (machineOf st li s)
+      unfolding actionTo actionOf
+      action-is = rw (← h .top-is) (ex ∙ ap (cond (barred && not (ltb (s .position) (length l))) 0) cell-value)
 
-      pub steppable : length l ≤ 65535 → x < 2 ^ 16 → (x ≡ 0 → ⊥) → (s .left ≡ 0 → ⊥) → Steppable t cs st li z s x
-      steppable short b nz more = record {
-        held = h;
-        fits = b;
-        shift-in = λ k.
-            let sh = shift-passed (h .checked) (s .top) (getD l (s .position) 0) top-in (next-passed p (s .position)) (rw (← cell-is) (omega (arith, nz))) (rw (← cell-is) k) in
-            (rw (h .shaped .states-are, cell-is) (sh .0), omega (arith, short, before-end l (s .position) (sh .1)));
-        reduction-in = λ k y.
-            rw cell-is
-            (reduce-passed (h .checked) (s .top) (getD l (s .position) 0) top-in (next-passed p (s .position)) (rw (← cell-is) k) (λ e. y (cell-is ∙ e)));
-        more = omega (arith, more);
-      }
+      module _ (nz : x ≡ 0 → ⊥) where
+        cell-is : x ≡ cellOf t (s .top) (getD l (s .position) 0)
+        cell-is = unbarred (barred && not (ltb (s .position) (length l))) ex nz ∙ cell-value
+
+        pub steppable : length l ≤ 65535 → x < 2 ^ 16 → (s .left ≡ 0 → ⊥) → Steppable t cs st li z s x
+        steppable short b more = record {
+          held = h;
+          fits = b;
+          shift-in = λ k.
+              let sh = shift-passed (h .checked) (s .top) (getD l (s .position) 0) top-in (next-passed p (s .position)) (rw (← cell-is) (omega (arith, nz))) (rw (← cell-is) k) in
+              (rw (h .shaped .states-are, cell-is) (sh .0), omega (arith, short, before-end l (s .position) (sh .1)));
+          reduction-in = λ k y.
+              rw cell-is
+              (reduce-passed (h .checked) (s .top) (getD l (s .position) 0) top-in (next-passed p (s .position)) (rw (← cell-is) k) (λ e. y (cell-is ∙ e)));
+          more = omega (arith, more);
+        }

@@ -2,6 +2,8 @@ pub mod Held
 pub mod Going
 pub mod Running
 pub mod Whole
+pub mod Readings
 pub mod Listing
 pub mod Cleared
 pub mod Copied
+pub mod Searching

@@ -2,11 +2,18 @@
 use Prim.Native.Nat.{ℕ, _+_, _^_, _<_, _≤_}
 use mathlib.Core.Path.{_≡_}
 use mathlib.Core.Logic.{_≢_}
+use mathlib.Core.Bool.{Bool, true, _||_}
 use mathlib.Core.List.{List, [], _∷_, _++_}
-use lib.ListN.{length, take, drop}
+use lib.ListN.{length, getD, take, drop, replicate}
 use lib.Count.{ones}
+use lib.Dec.{ltb, leb}
+use Rattle.sets.specs.Bit.{Has}
 use Rattle.machine.specs.Report.{numbersOf}
-use Rattle.machine.specs.ComputedRun.{Machine, Outcome, actionOf, run, endedAt}
+use Rattle.machine.specs.Checks.{closedOk}
+use Rattle.machine.specs.Restricted.{OpenLine, OpenOffer, OpenCutShort}
+use Rattle.machine.specs.ComputedRun.{Machine, Outcome, start, expectedAt, unknownAt, endedAt}
+use Rattle.machine.specs.RunTo.{actionTo, runTo}
+use Rattle.machine.proofs.Checked.{Passed}
 use Rattle.tables.specs.declared.Shape.{Shape}
 use Rattle.steps.specs.State.{machineOf, Held}
 use Rattle.steps.specs.declared.State.{State}
@@ -56,10 +63,10 @@ pub record Ends (o : Outcome) (e : Ending) (st li : List ℕ) : Type 0 where
 
 -- what comes of the steps left at a state s, from the machine m₀: the end of every run with that many steps and more, or the state that every such run comes to,
 -- with all of them made and an action to follow
-pub data Advances (t l cs : List ℕ) (z : Shape) (s : State) (m₀ : Machine) (st li : List ℕ) : Progress → Type 0 where
-  ended : {e : Ending} → ((j : ℕ) → Ends (run t l (s .left + j) m₀) e st li) → Advances t l cs z s m₀ st li (Ended e)
-  paused : {s′ : State} → ((j : ℕ) → run t l (s .left + j) m₀ ≡ run t l j (machineOf st li s′)) → Held t cs st li z s′ → actionOf t l (machineOf st li s′) ≢ 0
-      → s′ .position + s′ .listed ≡ s .position + s .listed + s .left → Advances t l cs z s m₀ st li (Paused s′)
+pub data Advances (t l : List ℕ) (barred : Bool) (cs : List ℕ) (z : Shape) (s : State) (m₀ : Machine) (st li : List ℕ) : Progress → Type 0 where
+  ended : {e : Ending} → ((j : ℕ) → Ends (runTo t l barred (s .left + j) m₀) e st li) → Advances t l barred cs z s m₀ st li (Ended e)
+  paused : {s′ : State} → ((j : ℕ) → runTo t l barred (s .left + j) m₀ ≡ runTo t l barred j (machineOf st li s′)) → Held t cs st li z s′ → actionTo t l barred (machineOf st li s′) ≢ 0
+      → s′ .position + s′ .listed ≡ s .position + s .listed + s .left → Advances t l barred cs z s m₀ st li (Paused s′)
 
 -- state 0 alone, before the first step
 abbrev pub startState : State
@@ -76,7 +83,7 @@ noCheckpoint = record { spot = record { depth = 1; left = 0; top = 0 }; position
 abbrev pub ResumesIn : List ℕ → List ℕ → ℕ → List ℕ → Checkpoint → Type 0
 ResumesIn t line limit se m = m .position < length line → Reaches t limit (length se) line se (drop (m .position) line) (m .spot)
 
--- so it is for each beginning of the input
+-- so it is for each beginning of the line that is read
 abbrev pub Resumes : List ℕ → List ℕ → ℕ → List ℕ → Checkpoint → Type 0
 Resumes t l limit se m = (place : ℕ) → place ≤ length l → ResumesIn t (take place l) limit se m
 
@@ -85,7 +92,41 @@ abbrev pub tells : Expected → ℕ → Counts → List ℕ
 tells (Known word) position c = 31 ∷ countsOf c ++ position ∷ word ∷ ones word ∷ []
 tells Cut position c = 46 ∷ countsOf c ++ position ∷ 0 ∷ 0 ∷ []
 
--- where the input before a position is to be explored, that is a part of the input, whose length is n
+-- where the line before a position is to be explored, that is a part of the line that is read, whose length is n
 abbrev pub Explorable : ℕ → Ending → Type 0
 Explorable n (Final r) = Unit {0}
 Explorable n (Wrong position c) = position ≤ n
+
+-- what is answered to a wrong terminal where the machine m has come; k is the length of the second area
+pub data AnswersAt (t : List ℕ) (closed : ℕ) (line : List ℕ) (a k : ℕ) (m : Machine) (r : Answer) : Type 0 where
+  known : (word : ℕ) → OpenOffer t closed a k (take (m .position) line) word → numbers r ≡ numbersOf (expectedAt word m) → AnswersAt t closed line a k m r
+  unknown : OpenCutShort t closed a k (take (m .position) line) → numbers r ≡ numbersOf (unknownAt m) → AnswersAt t closed line a k m r
+
+-- what is answered to an outcome
+pub data Answers (t : List ℕ) (closed : ℕ) (line : List ℕ) (a k : ℕ) (o : Outcome) (r : Answer) : Type 0 where
+  ends : o .number ≢ 31 → numbers r ≡ numbersOf (endedAt (o .number) (o .final)) → Answers t closed line a k o r
+  stops : o .number ≡ 31 → AnswersAt t closed line a k (o .final) r → Answers t closed line a k o r
+
+-- nothing is refused: n and k are the lengths of both stack areas
+pub record Ready (t line : List ℕ) (closed n k : ℕ) : Type 0 where
+  pub passed : Passed t line n
+  pub short : length line ≤ 65535
+  pub second : n ≤ k
+  pub word : closedOk t closed ≡ true
+
+-- the line is read up to its end or to the bar behind it
+pub record ReadsTo (t line : List ℕ) (barred : Bool) (closed : ℕ) (st₀ li₀ se₀ : List ℕ) (a : ℕ) (r : Answer) (st li se : List ℕ) : Type 0 where
+  pub answer : Answers t closed line a (length se₀) (runTo t line barred a (start st₀ li₀)) r
+  pub stack : st ≡ runTo t line barred a (start st₀ li₀) .final .stack
+  pub list : li ≡ runTo t line barred a (start st₀ li₀) .final .list
+  pub second : se ≡ replicate (length se₀) 0
+
+-- the terminals before place i are open, and it is that of the first closed one or the end of the input
+pub record OpenFront (closed : ℕ) (l : List ℕ) (i : ℕ) : Type 0 where
+  pub within : i ≤ length l
+  pub before : OpenLine closed (take i l)
+  pub there : i < length l → Has closed (getD l i 0)
+
+-- the terminal at a place is below lo or at least hi
+abbrev pub outside : ℕ → ℕ → List ℕ → ℕ → Bool
+outside lo hi l i = ltb (getD l i 0) lo || leb hi (getD l i 0)

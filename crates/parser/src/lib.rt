@@ -8,18 +8,20 @@ use table_checks::Verdict;
 use tables::Shape;
 use unlisted_steps::Spot;
 ghost use mathlib.Core.Path.{_≡_};
-ghost use mathlib.Core.Bool.{true};
+ghost use mathlib.Core.Bool.{true, false};
 ghost use mathlib.Core.List.{_∷_};
-ghost use Prim.Native.Nat.{_+_, _^_, _<_, _≤_};
-ghost use lib.ListN.{length, take, replicate};
-ghost use Rattle.machine.specs.Checks.{inputOk, refusalOf};
-ghost use Rattle.machine.specs.Report.{numbersOf};
-ghost use Rattle.machine.specs.ComputedRun.{Machine, Outcome, run as runs, start, wrongAt, reportOf, reading};
+ghost use Prim.Native.Nat.{ℕ, _+_, _^_, _<_, _≤_};
+ghost use lib.ListN.{length, getD, take, replicate};
+ghost use Rattle.sets.specs.Bit.{bit};
+ghost use Rattle.sets.specs.Tests.{allBelow};
+ghost use Rattle.machine.specs.Checks.{inputOk, closedOk, restrictedRefusal};
+ghost use Rattle.machine.specs.ComputedRun.{Machine, Outcome, start, reading, restrictedReading};
+ghost use Rattle.machine.specs.RunTo.{runTo};
 ghost use Rattle.machine.proofs.Checked.{Checked, Passed};
 ghost use Rattle.exploration.specs.Expected.{Explores};
 ghost use Rattle.steps.specs.State.{machineOf, stopNumber, Held};
 ghost use Rattle.parser.specs.Answer.{countsOf, numbers, ReadsAs};
-ghost use Rattle.parser.specs.Phases.{reached, acceptedAt, countBits, Countable, At, Says, Ends, Advances, startState, checkpointAt, noCheckpoint, ResumesIn, Resumes, Explorable, tells};
+ghost use Rattle.parser.specs.Phases.{reached, acceptedAt, countBits, Countable, At, Says, Ends, Advances, startState, checkpointAt, noCheckpoint, ResumesIn, Resumes, Explorable, tells, AnswersAt, Answers, Ready, ReadsTo, OpenFront, outside};
 ghost use Rattle.parser.specs.Terminals.{Lists};
 
 // The steps made, the stack places in use and the productions listed.
@@ -33,14 +35,14 @@ pub struct Counts {
 pub enum Answer {
     Refused(Refusal),
     Accepted(Counts),
-    // No action for the terminal at a position, with the expected set, the terminals that can follow, and its size.
+    // A wrong terminal at a position, one with no action or a closed one, with the expected set and its size.
     NoAction {
         position: usize,
         expected: u64,
         size: u32,
         counts: Counts,
     },
-    // No action either, but a fresh reading was cut short: which terminals can follow is not known.
+    // A wrong terminal, too, but a fresh reading was cut short: which terminals can follow is not known.
     ExpectedUnknown {
         position: usize,
         counts: Counts,
@@ -52,7 +54,7 @@ pub enum Answer {
     Broken(Counts),
 }
 
-// How a run ends: with its answer, or at a position with no action, where the expected set is yet to be found.
+// How a run ends: with its answer, or before a wrong terminal, where the expected set is yet to be found.
 enum Ending {
     Final(Answer),
     Wrong(usize, Counts),
@@ -111,22 +113,23 @@ fn accepted(s: State) -> Answer
     })
 }
 
-// The steps from a state, as many as it has left.
+// The steps from a state, as many as it has left, over a line with the end of the input or a bar behind it.
 fn advance(
     table: &[u16],
     cells: &[u16],
-    input: &[u8],
+    line: &[u8],
+    barred: bool,
     stack: &mut [u16],
     list: &mut [u16],
     z: Shape,
     from: State,
 ) -> Progress
-    requires { ⌜ (Passed (now table) (now input) (length (now stack))) × (length (now input) ≤ 65535) × (Held (now table) (now cells) (now stack) (now list) z from) × (from .position + from .listed + from .left < 2 ^ countBits) ⌝ }
-    ensures { λ r. ⌜ Advances (now (table .entry)) (now (input .entry)) (now (cells .entry)) z from (machineOf (now (stack .entry)) (now (list .entry)) from) (now (stack .exit)) (now (list .exit)) r ⌝ }
+    requires { ⌜ (Passed (now table) (now line) (length (now stack))) × (length (now line) ≤ 65535) × (Held (now table) (now cells) (now stack) (now list) z from) × (from .position + from .listed + from .left < 2 ^ countBits) ⌝ }
+    ensures { λ r. ⌜ Advances (now (table .entry)) (now (line .entry)) barred (now (cells .entry)) z from (machineOf (now (stack .entry)) (now (list .entry)) from) (now (stack .exit)) (now (list .exit)) r ⌝ }
 {
     let mut s = from;
     loop {
-        let a = steps::action(cells, input, z, s);
+        let a = steps::action(cells, line, barred, z, s);
         if a == 0 {
             return Progress::Ended(Ending::Wrong(s.position, count(s)));
         }
@@ -218,17 +221,18 @@ fn no_checkpoint() -> Checkpoint
     }
 }
 
-// The run over an input by a table, both checked. Now and then it leaves a checkpoint.
+// The run over a line by a table, both checked. Now and then it leaves a checkpoint.
 fn run(
     table: &[u16],
-    input: &[u8],
+    line: &[u8],
+    barred: bool,
     stack: &mut [u16],
     list: &mut [u16],
     second: &mut [u16],
     step_limit: u64,
 ) -> Course
-    requires { ⌜ (Passed (now table) (now input) (length (now stack))) × (length (now input) ≤ 65535) × (length (now stack) ≤ length (now second)) ⌝ }
-    ensures { λ r. ⌜ (Ends (runs (now (table .entry)) (now (input .entry)) «step_limit» (start (now (stack .entry)) (now (list .entry)))) (r .end) (now (stack .exit)) (now (list .exit))) × (Resumes (now (table .entry)) (now (input .entry)) «step_limit» (now (second .exit)) (r .checkpoint)) ⌝ }
+    requires { ⌜ (Passed (now table) (now line) (length (now stack))) × (length (now line) ≤ 65535) × (length (now stack) ≤ length (now second)) ⌝ }
+    ensures { λ r. ⌜ (Ends (runTo (now (table .entry)) (now (line .entry)) barred «step_limit» (start (now (stack .entry)) (now (list .entry)))) (r .end) (now (stack .exit)) (now (list .exit))) × (Resumes (now (table .entry)) (now (line .entry)) «step_limit» (now (second .exit)) (r .checkpoint)) ⌝ }
 {
     let z = tables::shape_of(table);
     let cells = tables::cells_of(table, z);
@@ -239,7 +243,7 @@ fn run(
     loop {
         s.left = portion(left, s.depth);
         left -= s.left;
-        let n = advance(table, cells, input, stack, list, z, s);
+        let n = advance(table, cells, line, barred, stack, list, z, s);
         match n {
             Progress::Ended(end) => {
                 return Course { end, checkpoint };
@@ -276,17 +280,19 @@ fn told(e: Expected, position: usize, counts: Counts) -> Answer
 fn explore_from(
     table: &[u16],
     line: &[u8],
+    closed: u64,
     second: &mut [u16],
     step_limit: u64,
     checkpoint: Checkpoint,
 ) -> Expected
-    requires { ⌜ (Checked (now table)) × (inputOk (now table) (now line) ≡ true) × (0 < length (now second)) × (ResumesIn (now table) (now line) «step_limit» (now second) checkpoint) ⌝ }
-    ensures { λ r. ⌜ Explores (now (table .entry)) «step_limit» (length (now (second .entry))) (now (line .entry)) r ⌝ }
+    requires { ⌜ (Checked (now table)) × (closedOk (now table) closed ≡ true) × (inputOk (now table) (now line) ≡ true) × (0 < length (now second)) × (ResumesIn (now table) (now line) «step_limit» (now second) checkpoint) ⌝ }
+    ensures { λ r. ⌜ Explores (now (table .entry)) closed «step_limit» (length (now (second .entry))) (now (line .entry)) r ⌝ }
 {
     if checkpoint.position < line.len() {
         return exploration::explore(
             table,
             line,
+            closed,
             second,
             checkpoint.spot,
             checkpoint.position,
@@ -294,30 +300,45 @@ fn explore_from(
         );
     }
     let s = exploration::begin(second, step_limit);
-    exploration::explore(table, line, second, s, 0, step_limit)
+    exploration::explore(table, line, closed, second, s, 0, step_limit)
 }
 
-// The answer for a wrong terminal at a position: the terminals that can follow the input before it.
+// The answer for a wrong terminal at a position: the open terminals that can follow the line before it.
 fn explored(
     table: &[u16],
-    input: &[u8],
+    line: &[u8],
+    closed: u64,
     second: &mut [u16],
     step_limit: u64,
     position: usize,
     counts: Counts,
     checkpoint: Checkpoint,
 ) -> Answer
-    requires { ⌜ (Checked (now table)) × (inputOk (now table) (now input) ≡ true) × (0 < length (now second)) × (position ≤ length (now input)) × (Resumes (now table) (now input) «step_limit» (now second) checkpoint) ⌝ }
-    ensures { λ r. ⌜ ((m : Machine) → At m position counts → numbers r ≡ numbersOf (wrongAt (now (table .entry)) (now (input .entry)) «step_limit» (length (now (second .entry))) m)) ⌝ }
+    requires { ⌜ (Checked (now table)) × (closedOk (now table) closed ≡ true) × (inputOk (now table) (now line) ≡ true) × (0 < length (now second)) × (position ≤ length (now line)) × (Resumes (now table) (now line) «step_limit» (now second) checkpoint) ⌝ }
+    ensures { λ r. ⌜ ((m : Machine) → At m position counts → AnswersAt (now (table .entry)) closed (now (line .entry)) «step_limit» (length (now (second .entry))) m r) ⌝ }
 {
-    let e = explore_from(table, &input[..position], second, step_limit, checkpoint);
+    let e = explore_from(
+        table,
+        &line[..position],
+        closed,
+        second,
+        step_limit,
+        checkpoint,
+    );
     told(e, position, counts)
 }
 
 // The answer of a run that has ended.
-fn answered(table: &[u16], input: &[u8], second: &mut [u16], step_limit: u64, r: Course) -> Answer
-    requires { ⌜ (Checked (now table)) × (inputOk (now table) (now input) ≡ true) × (0 < length (now second)) × (Explorable (length (now input)) (r .end)) × (Resumes (now table) (now input) «step_limit» (now second) (r .checkpoint)) ⌝ }
-    ensures { λ a. ⌜ ((o : Outcome) → Says o (r .end) → numbers a ≡ numbersOf (reportOf (now (table .entry)) (now (input .entry)) «step_limit» (length (now (second .entry))) o)) ⌝ }
+fn answered(
+    table: &[u16],
+    line: &[u8],
+    closed: u64,
+    second: &mut [u16],
+    step_limit: u64,
+    r: Course,
+) -> Answer
+    requires { ⌜ (Checked (now table)) × (closedOk (now table) closed ≡ true) × (inputOk (now table) (now line) ≡ true) × (0 < length (now second)) × (Explorable (length (now line)) (r .end)) × (Resumes (now table) (now line) «step_limit» (now second) (r .checkpoint)) ⌝ }
+    ensures { λ a. ⌜ ((o : Outcome) → Says o (r .end) → Answers (now (table .entry)) closed (now (line .entry)) «step_limit» (length (now (second .entry))) o a) ⌝ }
 {
     let checkpoint = r.checkpoint;
     let end = r.end;
@@ -326,7 +347,8 @@ fn answered(table: &[u16], input: &[u8], second: &mut [u16], step_limit: u64, r:
         Ending::Wrong(position, counts) => {
             explored(
                 table,
-                input,
+                line,
+                closed,
                 second,
                 step_limit,
                 position,
@@ -348,29 +370,39 @@ fn clear(second: &mut [u16])
 }
 
 // The same, and the second area is cleared.
-fn finish(table: &[u16], input: &[u8], second: &mut [u16], step_limit: u64, r: Course) -> Answer
-    requires { ⌜ (Checked (now table)) × (inputOk (now table) (now input) ≡ true) × (0 < length (now second)) × (Explorable (length (now input)) (r .end)) × (Resumes (now table) (now input) «step_limit» (now second) (r .checkpoint)) ⌝ }
-    ensures { λ a. ⌜ ((o : Outcome) → Says o (r .end) → numbers a ≡ numbersOf (reportOf (now (table .entry)) (now (input .entry)) «step_limit» (length (now (second .entry))) o)) × (now (second .exit) ≡ replicate (length (now (second .entry))) 0) ⌝ }
+fn finish(
+    table: &[u16],
+    line: &[u8],
+    closed: u64,
+    second: &mut [u16],
+    step_limit: u64,
+    r: Course,
+) -> Answer
+    requires { ⌜ (Checked (now table)) × (closedOk (now table) closed ≡ true) × (inputOk (now table) (now line) ≡ true) × (0 < length (now second)) × (Explorable (length (now line)) (r .end)) × (Resumes (now table) (now line) «step_limit» (now second) (r .checkpoint)) ⌝ }
+    ensures { λ a. ⌜ ((o : Outcome) → Says o (r .end) → Answers (now (table .entry)) closed (now (line .entry)) «step_limit» (length (now (second .entry))) o a) × (now (second .exit) ≡ replicate (length (now (second .entry))) 0) ⌝ }
 {
-    let a = answered(table, input, second, step_limit, r);
+    let a = answered(table, line, closed, second, step_limit, r);
     clear(second);
     a
 }
 
-// The reading of an input by a table, where nothing is refused.
+// The reading of a line by a table, where nothing is refused: the whole input, or what stands before its first closed
+// terminal, which is the bar.
 fn read(
     table: &[u16],
-    input: &[u8],
+    line: &[u8],
+    barred: bool,
+    closed: u64,
     stack: &mut [u16],
     list: &mut [u16],
     second: &mut [u16],
     step_limit: u64,
 ) -> Answer
-    requires { ⌜ refusalOf (now table) (now input) (length (now stack)) (length (now second)) ≡ 0 ⌝ }
-    ensures { λ r. ⌜ ReadsAs (reading (now (table .entry)) (now (input .entry)) (now (stack .entry)) (now (list .entry)) (now (second .entry)) «step_limit») r (now (stack .exit)) (now (list .exit)) (now (second .exit)) ⌝ }
+    requires { ⌜ Ready (now table) (now line) closed (length (now stack)) (length (now second)) ⌝ }
+    ensures { λ r. ⌜ ReadsTo (now (table .entry)) (now (line .entry)) barred closed (now (stack .entry)) (now (list .entry)) (now (second .entry)) «step_limit» r (now (stack .exit)) (now (list .exit)) (now (second .exit)) ⌝ }
 {
-    let r = run(table, input, stack, list, second, step_limit);
-    finish(table, input, second, step_limit, r)
+    let r = run(table, line, barred, stack, list, second, step_limit);
+    finish(table, line, closed, second, step_limit, r)
 }
 
 // Reads an input by a table: every input is answered, and a refusal changes nothing.
@@ -384,10 +416,121 @@ pub fn parse(
 ) -> Answer
     ensures { λ r. ⌜ ReadsAs (reading (now (table .entry)) (now (input .entry)) (now (stack .entry)) (now (list .entry)) (now (second .entry)) «step_limit») r (now (stack .exit)) (now (list .exit)) (now (second .exit)) ⌝ }
 {
-    let v = table_checks::check(table, input, stack.len(), second.len());
+    parse_restricted(table, input, 0, stack, list, second, step_limit)
+}
+
+// Whether terminal b is closed. A terminal is less than 64, so that this is one test of a bit.
+fn is_closed(closed: u64, b: u8) -> bool
+    requires { ⌜ b < 64 ⌝ }
+    ensures { λ r. ⌜ r ≡ bit closed b ⌝ }
+{
+    (closed >> b) & 1 == 1
+}
+
+// The first closed terminal, from the beginning, or the input's length.
+fn search(input: &[u8], closed: u64) -> usize
+    requires { ⌜ ((i : ℕ) → getD (now input) i 0 < 64) ⌝ }
+    ensures { λ r. ⌜ OpenFront closed (now (input .entry)) r ⌝ }
+{
+    let mut i: usize = 0;
+    while i < input.len() {
+        if is_closed(closed, input[i]) {
+            return i;
+        }
+        i += 1;
+    }
+    i
+}
+
+// The lowest closed terminal; 64 where none is closed.
+fn lowest_closed(closed: u64) -> u8
+    ensures { λ r. ⌜ ((m : ℕ) → m < r → bit closed m ≡ false) ⌝ }
+{
+    sets::lowest(closed) as u8
+}
+
+// One more than the highest closed terminal; 0 where none is closed.
+fn past_closed(closed: u64) -> u8
+    ensures { λ r. ⌜ closed < 2 ^ r ⌝ }
+{
+    (64 - u64::leading_zeros(closed)) as u8
+}
+
+// Whether each terminal is below lo or at least hi. No test ends the loop, so many terminals are tested at a time.
+fn all_outside(input: &[u8], lo: u8, hi: u8) -> bool
+    ensures { λ r. ⌜ r ≡ allBelow (length (now (input .entry))) (outside lo hi (now (input .entry))) ⌝ }
+{
+    let mut ok = true;
+    let mut i: usize = 0;
+    while i < input.len() {
+        let b = input[i];
+        ok = table_checks::both(ok, table_checks::either(b < lo, hi <= b));
+        i += 1;
+    }
+    ok
+}
+
+// The place of the first closed terminal, or the input's length. Where no terminal lies between the lowest and the highest
+// closed one, that is found without a test of each.
+fn first_closed(input: &[u8], closed: u64) -> usize
+    requires { ⌜ ((i : ℕ) → getD (now input) i 0 < 64) ⌝ }
+    ensures { λ r. ⌜ OpenFront closed (now (input .entry)) r ⌝ }
+{
+    if closed == 0 {
+        return input.len();
+    }
+    if all_outside(input, lowest_closed(closed), past_closed(closed)) {
+        return input.len();
+    }
+    search(input, closed)
+}
+
+// The restricted reading, where nothing is refused: no step looks at the word of closed terminals.
+fn read_restricted(
+    table: &[u16],
+    input: &[u8],
+    closed: u64,
+    stack: &mut [u16],
+    list: &mut [u16],
+    second: &mut [u16],
+    step_limit: u64,
+) -> Answer
+    requires { ⌜ restrictedRefusal (now table) closed (now input) (length (now stack)) (length (now second)) ≡ 0 ⌝ }
+    ensures { λ r. ⌜ ReadsAs (restrictedReading (now (table .entry)) closed (now (input .entry)) (now (stack .entry)) (now (list .entry)) (now (second .entry)) «step_limit») r (now (stack .exit)) (now (list .exit)) (now (second .exit)) ⌝ }
+{
+    let n = first_closed(input, closed);
+    let barred = n < input.len();
+    read(
+        table,
+        &input[..n],
+        barred,
+        closed,
+        stack,
+        list,
+        second,
+        step_limit,
+    )
+}
+
+// Reads an input by a table for those to whom some terminals are closed: a closed next terminal is wrong, and no
+// closed one is expected. With the word 0 it is `parse`.
+pub fn parse_restricted(
+    table: &[u16],
+    input: &[u8],
+    closed: u64,
+    stack: &mut [u16],
+    list: &mut [u16],
+    second: &mut [u16],
+    step_limit: u64,
+) -> Answer
+    ensures { λ r. ⌜ ReadsAs (restrictedReading (now (table .entry)) closed (now (input .entry)) (now (stack .entry)) (now (list .entry)) (now (second .entry)) «step_limit») r (now (stack .exit)) (now (list .exit)) (now (second .exit)) ⌝ }
+{
+    let v = table_checks::check_restricted(table, input, closed, stack.len(), second.len());
     match v {
         Verdict::Refused(e) => Answer::Refused(e),
-        Verdict::Passed => read(table, input, stack, list, second, step_limit),
+        Verdict::Passed => {
+            read_restricted(table, input, closed, stack, list, second, step_limit)
+        }
     }
 }
 

@@ -5,7 +5,7 @@ use table_checks::Refusal;
 ghost use mathlib.Core.Path.{_≡_};
 ghost use mathlib.Core.List.{_∷_, []};
 ghost use Rattle.sets.specs.Bit.{Lowest};
-ghost use Rattle.machine.specs.ComputedRun.{reading};
+ghost use Rattle.machine.specs.ComputedRun.{reading, restrictedReading};
 ghost use Rattle.table_checks.specs.Verdict.{refusalNumber};
 ghost use Rattle.parser.specs.Answer.{countsOf, numbers};
 ghost use Rattle.parser.specs.Terminals.{Lists};
@@ -30,6 +30,7 @@ fn refused(e: Refusal) -> [u64; 7]
         Refusal::TerminalWrong => 26,
         Refusal::NoStack => 27,
         Refusal::SecondShort => 45,
+        Refusal::ClosedWrong => 50,
     };
     [n, 0, 0, 0, 0, 0, 0]
 }
@@ -82,7 +83,23 @@ pub extern "C" fn sidumza_parse(
 )
     ensures { λ _. ⌜ WritesOut (reading (now (table .entry)) (now (input .entry)) (now (stack .entry)) (now (list .entry)) (now (second .entry)) «step_limit») (now (out .exit)) (now (stack .exit)) (now (list .exit)) (now (second .exit)) ⌝ }
 {
-    let a = parser::parse(table, input, stack, list, second, step_limit);
+    sidumza_parse_restricted(table, input, 0, stack, list, second, step_limit, out);
+}
+
+#[no_mangle]
+pub extern "C" fn sidumza_parse_restricted(
+    table: &[u16],
+    input: &[u8],
+    closed: u64,
+    stack: &mut [u16],
+    list: &mut [u16],
+    second: &mut [u16],
+    step_limit: u64,
+    out: &mut [u64; 7],
+)
+    ensures { λ _. ⌜ WritesOut (restrictedReading (now (table .entry)) closed (now (input .entry)) (now (stack .entry)) (now (list .entry)) (now (second .entry)) «step_limit») (now (out .exit)) (now (stack .exit)) (now (list .exit)) (now (second .exit)) ⌝ }
+{
+    let a = parser::parse_restricted(table, input, closed, stack, list, second, step_limit);
     *out = seven(a);
 }
 

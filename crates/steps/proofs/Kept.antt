@@ -1,12 +1,10 @@
 -- What holds between steps holds after a shift and after a reduction.
 use mathlib.Core.Path.{_≡_, refl, sym, ap, _∙_}
-use mathlib.Core.Logic.{⊎-elim}
 use mathlib.Core.List.{List}
-use Prim.Native.Nat.{ℕ, zero, suc, _+_, _-_, _*_, _<_, _≤_}
+use Prim.Native.Nat.{ℕ, _+_, _-_, _*_, _<_, _≤_}
 use native.Mathlib.Omega.{arith}
 use lib.ListN.{length, getD, set, length-set}
-use lib.Seq.{getD-set-same, getD-set-other}
-use Rattle.sets.proofs.HasLaws.{lt-or-ge}
+use lib.Seq.{getD-set-same}
 use Rattle.tables.specs.Layout.{states, width, leftOf, lengthOf, cellOf}
 use Rattle.machine.specs.ComputedRun.{popped, topOf, shifted, reducedTo, reduced}
 use Rattle.machine.specs.ComputedRun as machine
@@ -17,30 +15,8 @@ use Rattle.steps.specs.State.{machineOf, Held, Stepped, Reducible}
 use Rattle.steps.specs.declared.Next.{Next}
 use Rattle.steps.specs.declared.Next.the-variants.{Ended, Moved}
 use Rattle.steps.specs.declared.Stop.the-variants.{StackFull, Broken}
-use Rattle.machine.proofs.RunLaws.{shifted-goes, reducedTo-none, reducedTo-full, reducedTo-goes, reduced-to}
+use Rattle.machine.proofs.RunLaws.{popped-length, popped-at, states-more, shifted-goes, reducedTo-none, reducedTo-full, reducedTo-goes, reduced-to}
 use Rattle.steps.specs.declared.State.{State}
-
-pub popped-length : (s : List ℕ) (d n : ℕ) → length (popped s d n) ≡ length s
-unfolding popped
-popped-length s d zero = refl
-popped-length s d (suc n) = popped-length (set s (d - 1) 0) (d - 1) n ∙ length-set s (d - 1) 0
-
--- the places below stay
-pub popped-at : (s : List ℕ) (d n i : ℕ) → n ≤ d → i < d - n → getD (popped s d n) i 0 ≡ getD s i 0
-unfolding popped
-popped-at s d zero i h k = refl
-popped-at s d (suc n) i h k =
-    popped-at (set s (d - 1) 0) (d - 1) n i (omega arith) (omega arith) ∙ getD-set-other s (d - 1) i 0 0 (λ e. omega arith)
-
--- one state more on a stack of d
-states-more : (st : List ℕ) (d q n : ℕ) → d < length st → q < n → ((i : ℕ) → i < d → getD st i 0 < n) → (i : ℕ) → i < d + 1 → getD (set st d q) i 0 < n
-states-more st d q n h b f i k =
-    ⊎-elim
-    (λ (l : i < d). rw (getD-set-other st d i q 0 (λ e. omega arith)) (f i l))
-    (λ (g : d ≤ i).
-    let e : i ≡ d = omega arith in
-    rw (e, getD-set-same st d q 0 h) b)
-    (lt-or-ge i d)
 
 top-more : (st : List ℕ) (d q : ℕ) → d < length st → q ≡ topOf (set st d q) (d + 1)
 unfolding topOf

@@ -2,8 +2,10 @@
 use tables::Shape;
 ghost use mathlib.Core.Path.{_≡_};
 ghost use mathlib.Core.List.{List};
+ghost use mathlib.Core.Bool.{cond, not, _&&_};
 ghost use Prim.Native.Nat.{ℕ, _+_, _*_, _-_, _<_, _≤_, _^_};
 ghost use lib.ListN.{getD, length};
+ghost use lib.Dec.{ltb};
 ghost use Rattle.tables.specs.Layout.{productions, leftOf, lengthOf, cellOf};
 ghost use Rattle.machine.specs.ComputedRun.{popped, shifted, reducedTo, reduced, movedBy};
 ghost use Rattle.tables.specs.declared.Shape.{Shape};
@@ -46,13 +48,20 @@ fn pop(stack: &mut [u16], depth: usize, n: usize)
     }
 }
 
-// The cell of the top state and the next terminal.
-pub fn action(cells: &[u16], input: &[u8], z: Shape, s: State) -> usize
-    requires { ⌜ getD (now input) (s .position) 0 + s .top * z .width < length (now cells) ⌝ }
-    ensures { λ r. ⌜ (r ≡ getD (now (cells .entry)) (getD (now (input .entry)) (s .position) 0 + s .top * z .width) 0) × (r < 2 ^ 16) ⌝ }
+// The cell of the top state and the next terminal. Behind the line stands the end of the input, or else a bar: then it is 0.
+pub fn action(cells: &[u16], line: &[u8], barred: bool, z: Shape, s: State) -> usize
+    requires { ⌜ getD (now line) (s .position) 0 + s .top * z .width < length (now cells) ⌝ }
+    ensures { λ r. ⌜ (r ≡ cond (barred && not (ltb (s .position) (length (now (line .entry))))) 0 (getD (now (cells .entry)) (getD (now (line .entry)) (s .position) 0 + s .top * z .width) 0)) × (r < 2 ^ 16) ⌝ }
 {
-    let x = tables::byte_at(input, s.position) as usize;
-    tables::cell_at(cells, x, s.top * z.width) as usize
+    let i = s.position;
+    if i < line.len() {
+        let x = line[i] as usize;
+        return tables::cell_at(cells, x, s.top * z.width) as usize;
+    }
+    if barred {
+        return 0;
+    }
+    tables::cell_at(cells, 0, s.top * z.width) as usize
 }
 
 fn shift(stack: &mut [u16], s: State, a: usize) -> Next

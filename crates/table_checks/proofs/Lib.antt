@@ -1,3 +1,4 @@
 pub mod RowLaws
 pub mod EntryLaws
 pub mod VerdictLaws
+pub mod ClosedLaws

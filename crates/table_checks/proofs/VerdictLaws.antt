@@ -10,7 +10,7 @@ use Rattle.tables.specs.Layout.{sizeOf}
 use Rattle.tables.specs.declared.Shape.{Shape}
 use Rattle.machine.specs.Checks.{productionsOk, cellsOk, entriesOk, tableRefusal}
 use Rattle.table_checks.specs.declared.Refusal.{Refusal}
-use Rattle.table_checks.specs.declared.Refusal.the-variants.{TableShort, SizesWrong, ProductionWrong, CellWrong, EntryWrong, InputLong, TerminalWrong, NoStack, SecondShort}
+use Rattle.table_checks.specs.declared.Refusal.the-variants.{TableShort, SizesWrong, ProductionWrong, CellWrong, EntryWrong, InputLong, TerminalWrong, NoStack, SecondShort, ClosedWrong}
 use Rattle.table_checks.specs.declared.Verdict.{Verdict}
 use Rattle.table_checks.specs.declared.Verdict.the-variants.{Passed, Refused}
 use Rattle.table_checks.specs.Verdict.{refusalNumber, verdictNumber}
@@ -35,6 +35,7 @@ stays InputLong n = refl
 stays TerminalWrong n = refl
 stays NoStack n = refl
 stays SecondShort n = refl
+stays ClosedWrong n = refl
 
 module _ {v : Verdict} {m : ℕ} (is : verdictNumber v ≡ m) where
   pub first-refused : (e : Refusal) (n : ℕ) → v ≡ Refused e → refusalNumber e ≡ firstRefusal m n

@@ -1,4 +1,4 @@
-// What the reader refuses: the table, the input and the stack areas.
+// What the reader refuses: the table, the input, the stack areas and the word of closed terminals.
 use tables::Shape;
 ghost use mathlib.Core.Path.{_≡_};
 ghost use mathlib.Core.Bool.{_&&_, _||_};
@@ -6,11 +6,11 @@ ghost use mathlib.Core.List.{List};
 ghost use Prim.Native.Nat.{ℕ, _+_, _<_, _≤_};
 ghost use lib.ListN.{length, getD};
 ghost use lib.Dec.{ltb};
-ghost use Rattle.sets.specs.Tests.{allBelow, between as betweenOf, firstRefusal};
+ghost use Rattle.sets.specs.Tests.{allBelow, between as betweenOf, unless, firstRefusal};
 ghost use Rattle.tables.specs.Layout.{states, terminals, productions, lengthAt};
 ghost use Rattle.tables.specs.Shape.{Shaped};
 ghost use Rattle.machine.specs.Checks.{sizesOk, productionOk, productionsOk, rowOk, cellsOk, entryOk, namesOk, rowNamesOk, entriesOk, inputOk};
-ghost use Rattle.machine.specs.Checks.{tableRefusal, inputRefusal, areaRefusal, refusalOf};
+ghost use Rattle.machine.specs.Checks.{tableRefusal, inputRefusal, areaRefusal, refusalOf, closedOk, restrictedRefusal};
 ghost use Rattle.table_checks.specs.Verdict.{verdictNumber};
 ghost use Rattle.table_checks.specs.Rows.{endTest, actionTest, unnamed, Whole};
 
@@ -24,6 +24,7 @@ pub enum Refusal {
     TerminalWrong,
     NoStack,
     SecondShort,
+    ClosedWrong,
 }
 
 pub enum Verdict {
@@ -31,13 +32,13 @@ pub enum Verdict {
     Refused(Refusal),
 }
 
-fn both(a: bool, b: bool) -> bool
+pub fn both(a: bool, b: bool) -> bool
     ensures { λ r. ⌜ r ≡ (a && b) ⌝ }
 {
     if a { b } else { false }
 }
 
-fn either(a: bool, b: bool) -> bool
+pub fn either(a: bool, b: bool) -> bool
     ensures { λ r. ⌜ r ≡ (a || b) ⌝ }
 {
     if a { true } else { b }
@@ -365,5 +366,37 @@ pub fn check(t: &[u16], l: &[u8], n: usize, k: usize) -> Verdict
     match v {
         Verdict::Refused(e) => Verdict::Refused(e),
         Verdict::Passed => check_lent(t, l, n, k),
+    }
+}
+
+// Whether no closed terminal is 0 or at least n. A word has no bit from 64 on.
+fn closed_ok(closed: u64, n: usize) -> bool
+    ensures { λ r. ⌜ ((t : List ℕ) → terminals t ≡ n → r ≡ closedOk t closed) ⌝ }
+{
+    if sets::has(closed, 0) {
+        return false;
+    }
+    if n < 64 { closed >> n == 0 } else { true }
+}
+
+// Whether 50 applies to a word of closed terminals for a table.
+fn check_closed(t: &[u16], closed: u64) -> Verdict
+    requires { ⌜ tableRefusal (now t) ≡ 0 ⌝ }
+    ensures { λ r. ⌜ verdictNumber r ≡ unless (closedOk (now (t .entry)) closed) 50 0 ⌝ }
+{
+    if !closed_ok(closed, tables::shape_of(t).terminals) {
+        return Verdict::Refused(Refusal::ClosedWrong);
+    }
+    Verdict::Passed
+}
+
+// The same as `check`, with a word of closed terminals behind all.
+pub fn check_restricted(t: &[u16], l: &[u8], closed: u64, n: usize, k: usize) -> Verdict
+    ensures { λ r. ⌜ verdictNumber r ≡ restrictedRefusal (now (t .entry)) closed (now (l .entry)) n k ⌝ }
+{
+    let v = check(t, l, n, k);
+    match v {
+        Verdict::Refused(e) => Verdict::Refused(e),
+        Verdict::Passed => check_closed(t, closed),
     }
 }

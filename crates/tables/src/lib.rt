@@ -136,10 +136,3 @@ pub fn cell_at(cells: &[u16], from: usize, i: usize) -> u16
     let part = &cells[from..];
     part[i]
 }
-
-// The byte at place i, and 0 past the end.
-pub fn byte_at(s: &[u8], i: usize) -> u8
-    ensures { λ r. ⌜ r ≡ getD (now (s .entry)) i 0 ⌝ }
-{
-    if i < s.len() { s[i] } else { 0 }
-}

@@ -1,5 +1,7 @@
 //! The C functions under test. Where an archive is not linked, the reference's
-//! second way and its parser stand in behind the same functions.
+//! second way and its parser stand in.
+
+use reference::parser;
 
 #[cfg(generator_archive)]
 pub const GENERATOR: &str = "archive";
@@ -67,34 +69,21 @@ extern "C" {
         step_limit: u64,
         out: *mut u64,
     );
-}
-
-#[cfg(not(parser_archive))]
-#[allow(clippy::too_many_arguments)]
-unsafe extern "C" fn sidumza_parse(
-    table: *const u16,
-    table_len: usize,
-    input: *const u8,
-    input_len: usize,
-    stack: *mut u16,
-    stack_len: usize,
-    list: *mut u16,
-    list_len: usize,
-    second: *mut u16,
-    second_len: usize,
-    step_limit: u64,
-    out: *mut u64,
-) {
-    use std::slice::{from_raw_parts, from_raw_parts_mut};
-    let outcome = reference::parser::parse(
-        from_raw_parts(table, table_len),
-        from_raw_parts(input, input_len),
-        from_raw_parts_mut(stack, stack_len),
-        from_raw_parts_mut(list, list_len),
-        from_raw_parts_mut(second, second_len),
-        step_limit,
+    fn sidumza_parse_restricted(
+        table: *const u16,
+        table_len: usize,
+        input: *const u8,
+        input_len: usize,
+        closed: u64,
+        stack: *mut u16,
+        stack_len: usize,
+        list: *mut u16,
+        list_len: usize,
+        second: *mut u16,
+        second_len: usize,
+        step_limit: u64,
+        out: *mut u64,
     );
-    from_raw_parts_mut(out, 7).copy_from_slice(&outcome.out());
 }
 
 /// Makes a table: card, table area, both work areas.
@@ -102,6 +91,30 @@ pub type Generator = dyn Fn(&[u16], &mut [u16], &mut [u64], &mut [u32]) -> [u64;
 
 /// Reads an input: table, input, stack area, list area, second area, step limit.
 pub type Parser = dyn Fn(&[u16], &[u8], &mut [u16], &mut [u16], &mut [u16], u64) -> [u64; 7];
+
+/// The same with a word of closed terminals behind the input.
+pub type Choir = dyn Fn(&[u16], &[u8], u64, &mut [u16], &mut [u16], &mut [u16], u64) -> [u64; 7];
+
+/// Both calls of a parser: the publisher's and the choir's.
+#[derive(Clone, Copy)]
+pub struct Calls<'a> {
+    pub publisher: &'a Parser,
+    pub choir: &'a Choir,
+}
+
+/// The reference's calls.
+pub const RIGHT: Calls = Calls {
+    publisher: &|t, i, s, l, v, limit| parser::parse(t, i, s, l, v, limit).out(),
+    choir: &|t, i, closed, s, l, v, limit| {
+        parser::parse_restricted(t, i, closed, s, l, v, limit).out()
+    },
+};
+
+/// The calls under test.
+#[cfg(parser_archive)]
+pub const TESTED: Calls = Calls { publisher: &parse, choir: &parse_restricted };
+#[cfg(not(parser_archive))]
+pub const TESTED: Calls = RIGHT;
 
 pub fn generate(card: &[u16], table: &mut [u16], work: &mut [u64], work2: &mut [u32]) -> [u64; 5] {
     // What is not written must not look like an answer.
@@ -122,7 +135,8 @@ pub fn generate(card: &[u16], table: &mut [u16], work: &mut [u64], work2: &mut [
     out
 }
 
-pub fn parse(
+#[cfg(parser_archive)]
+fn parse(
     table: &[u16],
     input: &[u8],
     stack: &mut [u16],
@@ -137,6 +151,37 @@ pub fn parse(
             table.len(),
             input.as_ptr(),
             input.len(),
+            stack.as_mut_ptr(),
+            stack.len(),
+            list.as_mut_ptr(),
+            list.len(),
+            second.as_mut_ptr(),
+            second.len(),
+            step_limit,
+            out.as_mut_ptr(),
+        );
+    }
+    out
+}
+
+#[cfg(parser_archive)]
+fn parse_restricted(
+    table: &[u16],
+    input: &[u8],
+    closed: u64,
+    stack: &mut [u16],
+    list: &mut [u16],
+    second: &mut [u16],
+    step_limit: u64,
+) -> [u64; 7] {
+    let mut out = [99; 7];
+    unsafe {
+        sidumza_parse_restricted(
+            table.as_ptr(),
+            table.len(),
+            input.as_ptr(),
+            input.len(),
+            closed,
             stack.as_mut_ptr(),
             stack.len(),
             list.as_mut_ptr(),

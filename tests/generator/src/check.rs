@@ -7,9 +7,9 @@ use reference::derivation::Shortest;
 use reference::grammar::Grammar;
 use reference::random::Random;
 
-use crate::abi::{Generator, Parser};
+use crate::abi::{Calls, Generator};
 use crate::guarded::Guarded;
-use crate::readings::{self, input, Readings};
+use crate::readings::{self, closed_word, input, Readings};
 
 /// Places behind the areas lent, which nobody may touch.
 pub const FENCE: usize = 24;
@@ -237,7 +237,7 @@ impl Checker {
         random: &mut Random,
         numbers: &[u16],
         generator: &Generator,
-        parser: &Parser,
+        calls: Calls,
     ) -> Result<(), String> {
         let mut short = [false; 3];
         if random.chance(3) {
@@ -257,7 +257,11 @@ impl Checker {
             let table = &self.areas.table.now[..self.areas.table.length];
             for number in 0..self.inputs {
                 let input = input(random, &grammar, &shortest, number);
-                self.readings.read(random, &grammar, table, &input, parser)?;
+                self.readings.read(random, &grammar, table, &input, None, calls)?;
+                if random.chance(50) {
+                    let word = closed_word(random, grammar.card.terminals, &input);
+                    self.readings.read(random, &grammar, table, &input, Some(word), calls)?;
+                }
             }
         }
         Ok(())

@@ -14,6 +14,7 @@
 mod abi;
 mod cards;
 mod check;
+mod choirs;
 mod entered;
 #[rustfmt::skip]
 #[path = "../../reader/src/guarded.rs"]
@@ -33,6 +34,7 @@ use std::os::unix::process::ExitStatusExt;
 use std::process::{Command, ExitCode};
 use std::time::Instant;
 
+use abi::{Calls, RIGHT};
 use check::{Checker, Counts};
 use reference::random::Random;
 
@@ -66,6 +68,17 @@ fn report(counts: &Counts, seen: &readings::Counts) {
          second area {}; second area short {}",
         seen.moved, seen.by_spans, seen.unknown, seen.saved, seen.second_short
     );
+    let closed = &seen.closed;
+    println!(
+        "closed terminals: refused {}, accepted {}, wrong at one {} (behind a sentence {}), before \
+         one {}, missing from the expected set {}",
+        closed.refused,
+        closed.accepted,
+        closed.at,
+        closed.behind_sentence,
+        closed.before,
+        closed.narrowed
+    );
 }
 
 fn compare(seed: u64, cards: u64) -> bool {
@@ -74,7 +87,7 @@ fn compare(seed: u64, cards: u64) -> bool {
     let mut checker = Checker::new(&mut random);
     for _ in 0..cards {
         let numbers = cards::card(&mut random);
-        if let Err(what) = checker.card(&mut random, &numbers, &abi::generate, &abi::parse) {
+        if let Err(what) = checker.card(&mut random, &numbers, &abi::generate, abi::TESTED) {
             println!("card {}: {what}", show(&numbers));
             println!("FAILED at card {} of seed {seed}", checker.counts.cards);
             return false;
@@ -113,7 +126,7 @@ fn found(
     cards: u64,
     against: Against,
     generator: &abi::Generator,
-    parser: &abi::Parser,
+    calls: Calls,
 ) -> Option<(u64, String)> {
     let mut random = Random::new(seed);
     let mut checker = Checker::new(&mut random);
@@ -125,22 +138,11 @@ fn found(
     };
     for card in 1..=cards {
         let numbers = cards::card(&mut random);
-        if let Err(what) = checker.card(&mut random, &numbers, generator, parser) {
+        if let Err(what) = checker.card(&mut random, &numbers, generator, calls) {
             return Some((card, what));
         }
     }
     None
-}
-
-fn parser(
-    t: &[u16],
-    i: &[u8],
-    s: &mut [u16],
-    l: &mut [u16],
-    v: &mut [u16],
-    limit: u64,
-) -> [u64; 7] {
-    reference::parser::parse(t, i, s, l, v, limit).out()
 }
 
 fn generator(c: &[u16], t: &mut [u16], w: &mut [u64], v: &mut [u32]) -> [u64; 5] {
@@ -159,7 +161,7 @@ fn reads_behind(seed: u64, cards: u64) -> bool {
         }
         out
     };
-    found(seed, cards, Against::All, &reads, &parser).is_none()
+    found(seed, cards, Against::All, &reads, RIGHT).is_none()
 }
 
 /// The signal for memory that may not be touched.
@@ -175,12 +177,15 @@ fn reads_behind_dies() -> bool {
 /// What the wrong ones are made from is right: the first card where it is not.
 fn wrong_base(seed: u64, cards: u64) -> Option<String> {
     let base = wrong::by_relations("the short way without a fault", relations::Fault::None);
-    let bases: [(_, &abi::Generator, &abi::Parser); 2] = [
-        (base.name, &base.generator, &parser),
-        ("fresh readings without a fault", &generator, &offers::base()),
+    let publisher = Calls { publisher: &offers::base(), ..RIGHT };
+    let choir = Calls { choir: &choirs::base(), ..RIGHT };
+    let bases: [(_, &abi::Generator, Calls); 3] = [
+        (base.name, &base.generator, RIGHT),
+        ("fresh readings without a fault", &generator, publisher),
+        ("a choir's without a fault", &generator, choir),
     ];
-    for (name, generator, parser) in bases {
-        if let Some((card, what)) = found(seed, cards, Against::All, generator, parser) {
+    for (name, generator, calls) in bases {
+        if let Some((card, what)) = found(seed, cards, Against::All, generator, calls) {
             return Some(format!("{name} at card {card}: {what}"));
         }
     }
@@ -194,40 +199,63 @@ fn wrong_base(seed: u64, cards: u64) -> Option<String> {
     told.then_some("the count of right sides refused".into())
 }
 
-fn self_check(seed: u64, cards: u64) -> bool {
-    println!("seed {seed}, at most {cards} cards each");
-    let (mut told, mut missed) = (0, 0);
-    let mut tell = |name: &str, result: Option<(u64, String)>| {
-        told += 1;
+/// The wrong generators and parsers looked for.
+#[derive(Default)]
+struct Tally {
+    told: u64,
+    missed: u64,
+}
+
+impl Tally {
+    fn tell(&mut self, name: &str, result: Option<(u64, String)>) {
+        self.told += 1;
         match result {
             Some((0, what)) => println!("found: {name} ({what})"),
             Some((card, what)) => println!("found at card {card:>6}: {name} ({what})"),
             None => {
                 println!("NOT FOUND: {name}");
-                missed += 1;
+                self.missed += 1;
             }
         }
+    }
+}
+
+/// Looks for each wrong generator, and for each wrong parser in its call.
+fn look_for_all(seed: u64, cards: u64, tally: &mut Tally) {
+    let mut look = |name, against, generator: &abi::Generator, calls: Calls| {
+        tally.tell(name, found(seed, cards, against, generator, calls));
     };
+    for wrong in wrong::generators() {
+        look(wrong.name, Against::All, &wrong.generator, RIGHT);
+    }
+    for wrong in wrong::tables() {
+        look(wrong.name, Against::WrongTables, &wrong.generator, RIGHT);
+    }
+    let others = parsers::parsers().into_iter().chain(offers::limits()).collect();
+    for (against, parsers) in [(Against::All, others), (Against::Grammar, offers::sets())] {
+        for (name, wrong) in parsers {
+            look(name, against, &generator, Calls { publisher: &wrong, ..RIGHT });
+        }
+    }
+    for (against, calls) in [(Against::All, choirs::calls()), (Against::Grammar, choirs::sets())] {
+        for (name, wrong) in calls {
+            look(name, against, &generator, Calls { choir: &wrong, ..RIGHT });
+        }
+    }
+}
+
+fn self_check(seed: u64, cards: u64) -> bool {
+    println!("seed {seed}, at most {cards} cards each");
     if let Some(what) = wrong_base(seed, cards / 10) {
         println!("FAILED: {what}");
         return false;
     }
-    for wrong in wrong::generators() {
-        tell(wrong.name, found(seed, cards, Against::All, &wrong.generator, &parser));
-    }
-    for wrong in wrong::tables() {
-        tell(wrong.name, found(seed, cards, Against::WrongTables, &wrong.generator, &parser));
-    }
-    for (name, wrong) in parsers::parsers().into_iter().chain(offers::limits()) {
-        tell(name, found(seed, cards, Against::All, &generator, &wrong));
-    }
-    for (name, wrong) in offers::sets() {
-        tell(name, found(seed, cards, Against::Grammar, &generator, &wrong));
-    }
+    let mut tally = Tally::default();
+    look_for_all(seed, cards, &mut tally);
     let died = reads_behind_dies().then(|| (0, "ended by a signal".to_string()));
-    tell("a symbol behind L looked at", died);
-    println!("{told} wrong generators and parsers, {missed} not found");
-    missed == 0
+    tally.tell("a symbol behind L looked at", died);
+    println!("{} wrong generators and parsers, {} not found", tally.told, tally.missed);
+    tally.missed == 0
 }
 
 fn main() -> ExitCode {

@@ -7,7 +7,7 @@ use crate::abi::Parser;
 use crate::readings::top_row;
 
 /// Where a reading ended with 31 or 46.
-struct Place<'a> {
+pub struct Place<'a> {
     table: &'a [u16],
     input: &'a [u8],
     position: usize,
@@ -32,6 +32,11 @@ impl Place<'_> {
 
     fn last(&self) -> usize {
         self.table[1] as usize - 1
+    }
+
+    /// How the fresh reading for a terminal ends.
+    pub fn end(&self, terminal: u8) -> u64 {
+        self.fresh().line(self.before(), terminal)
     }
 }
 
@@ -121,7 +126,7 @@ impl Fresh<'_> {
 }
 
 /// What is offered where the fresh reading for each terminal ends so.
-fn offered(at: &Place, end: impl Fn(u8) -> u64) -> Option<u64> {
+pub fn offered(at: &Place, end: impl Fn(u8) -> u64) -> Option<u64> {
     let mut set = 0;
     for terminal in 0..=at.last() as u8 {
         match end(terminal) {
@@ -134,7 +139,7 @@ fn offered(at: &Place, end: impl Fn(u8) -> u64) -> Option<u64> {
 }
 
 fn right(at: &Place) -> Option<u64> {
-    offered(at, |m| at.fresh().line(at.before(), m))
+    offered(at, |m| at.end(m))
 }
 
 /// Fresh readings whose end is taken otherwise: by the reading, its terminal and its end.
@@ -149,19 +154,30 @@ fn taken(at: &Place, take: impl Fn(&Fresh, u8, u64) -> u64) -> Option<u64> {
 /// As the parser, with another expected set; none for 46.
 fn by_offer(offer: impl Fn(&Place) -> Option<u64> + 'static) -> Box<Parser> {
     Box::new(move |table, input, stack, list, second, limit| {
-        let mut out = parse(table, input, stack, list, second, limit).out();
-        if out[0] != 31 && out[0] != 46 {
-            return out;
-        }
+        let out = parse(table, input, stack, list, second, limit).out();
         let lengths = [stack.len(), list.len(), second.len()];
-        let (position, states) = (out[4] as usize, &stack[..out[2] as usize]);
-        let place = Place { table, input, position, states, steps: out[1], limit, lengths };
-        let set = offer(&place);
-        out[0] = if set.is_some() { 31 } else { 46 };
-        out[5] = set.unwrap_or(0);
-        out[6] = u64::from(out[5].count_ones());
-        out
+        with_offer(out, table, input, stack, (limit, lengths), &offer)
     })
+}
+
+/// An answer with another expected set, where it has one.
+pub fn with_offer(
+    mut out: [u64; 7],
+    table: &[u16],
+    input: &[u8],
+    stack: &[u16],
+    (limit, lengths): (u64, [usize; 3]),
+    offer: impl Fn(&Place) -> Option<u64>,
+) -> [u64; 7] {
+    if out[0] != 31 && out[0] != 46 {
+        return out;
+    }
+    let (position, states) = (out[4] as usize, &stack[..out[2] as usize]);
+    let set = offer(&Place { table, input, position, states, steps: out[1], limit, lengths });
+    out[0] = if set.is_some() { 31 } else { 46 };
+    out[5] = set.unwrap_or(0);
+    out[6] = u64::from(out[5].count_ones());
+    out
 }
 
 /// Right, with the fresh readings of this file: what the others are made from.

@@ -1,14 +1,14 @@
-//! Inputs read with a table made: the parser's answer and its three areas against the
-//! reference, and the answer against the membership tests.
+//! Inputs read with a table made, by the publisher's call and by the choir's: the answer
+//! and the three areas against the reference, and the answer against the membership tests.
 
 use reference::derivation::{is_rightmost, sentence, Shortest};
 use reference::earley::{recognise, Recognition};
 use reference::grammar::Grammar;
-use reference::parser::{parse, Outcome};
+use reference::parser::{parse_restricted, Outcome};
 use reference::random::Random;
 use reference::spans::{follow, Derivations, Spans};
 
-use crate::abi::Parser;
+use crate::abi::Calls;
 use crate::check::FENCE;
 
 /// Steps that no input of the tests needs: a small limit, and wide ones whose lower half
@@ -72,10 +72,27 @@ pub struct Counts {
     pub saved: u64,
     /// 45.
     pub second_short: u64,
+    pub closed: Closed,
+}
+
+/// What was seen of the choir's call.
+#[derive(Default)]
+pub struct Closed {
+    /// 50.
+    pub refused: u64,
+    /// Accepted although terminals are closed.
+    pub accepted: u64,
+    /// Wrong at a closed terminal, also where the terminals before it are a sentence, and
+    /// wrong before one.
+    pub at: u64,
+    pub behind_sentence: u64,
+    pub before: u64,
+    /// Expected sets that closed terminals are missing from.
+    pub narrowed: u64,
 }
 
 impl Counts {
-    /// What came hardly ever, among what the offers and the second area can give.
+    /// What came hardly ever, among what the offers, the second area and words can give.
     pub fn few(&self) -> Vec<&'static str> {
         let all = [
             ("moved offers", self.moved),
@@ -83,8 +100,26 @@ impl Counts {
             ("46", self.unknown),
             ("offers in a longer second area", self.saved),
             ("45", self.second_short),
+            ("50", self.closed.refused),
+            ("accepted while terminals are closed", self.closed.accepted),
+            ("wrong at a closed terminal", self.closed.at),
+            ("wrong at a closed terminal behind a sentence", self.closed.behind_sentence),
+            ("wrong before a closed terminal", self.closed.before),
+            ("expected sets without closed terminals", self.closed.narrowed),
         ];
         all.iter().filter(|(_, many)| *many < 100).map(|(what, _)| *what).collect()
+    }
+}
+
+impl Closed {
+    fn count(&mut self, closed: u64, first: Option<usize>, end: &Outcome, known: Recognition) {
+        let wrong = end.number == 31 || end.number == 46;
+        let at = wrong && first.is_some_and(|first| end.position == first as u64);
+        self.accepted += u64::from(end.number == 0 && closed != 0);
+        self.at += u64::from(at);
+        self.behind_sentence += u64::from(at && known.sentence);
+        self.before += u64::from(wrong && first.is_some() && !at);
+        self.narrowed += u64::from(end.number == 31 && known.follow & closed != 0);
     }
 }
 
@@ -114,25 +149,27 @@ impl Readings {
     }
 
     /// Reads an input with the table made, and compares with the reference and with what
-    /// is known of the grammar without LR.
+    /// is known of the grammar without LR; with a word by the choir's call.
     pub fn read(
         &mut self,
         random: &mut Random,
         grammar: &Grammar,
         table: &[u16],
         input: &[u8],
-        parser: &Parser,
+        closed: Option<u64>,
+        calls: Calls,
     ) -> Result<(), String> {
         self.lend(random);
         let thorough = random.chance(5);
-        self.compare(table, input, parser)
-            .and_then(|end| self.known(grammar, table, input, &end, thorough))
+        self.compare(table, input, closed, calls)
+            .and_then(|end| self.known(grammar, table, input, closed.unwrap_or(0), &end, thorough))
             .map_err(|what| {
                 let [stack, list, second] =
                     [&self.stack, &self.list, &self.second].map(|a| a.length);
                 let limit = self.limit;
                 format!(
-                    "input {input:?}, areas {stack}, {list} and {second}, limit {limit}: {what}"
+                    "input {input:?}, closed {closed:x?}, areas {stack}, {list} and {second}, \
+                     limit {limit}: {what}"
                 )
             })
     }
@@ -162,12 +199,23 @@ impl Readings {
     }
 
     /// The parser's answer, where it and the areas are the reference's.
-    fn compare(&mut self, table: &[u16], input: &[u8], parser: &Parser) -> Result<Outcome, String> {
+    fn compare(
+        &mut self,
+        table: &[u16],
+        input: &[u8],
+        closed: Option<u64>,
+        calls: Calls,
+    ) -> Result<Outcome, String> {
         let Readings { stack, list, second, limit, .. } = self;
-        let out = parser(table, input, stack.ours(), list.ours(), second.ours(), *limit);
+        let (limit, (s, l, v)) = (*limit, (stack.ours(), list.ours(), second.ours()));
+        let out = match closed {
+            None => (calls.publisher)(table, input, s, l, v, limit),
+            Some(word) => (calls.choir)(table, input, word, s, l, v, limit),
+        };
         if self.plainly {
-            let areas = (stack.theirs(), list.theirs(), second.theirs());
-            let expected = parse(table, input, areas.0, areas.1, areas.2, *limit).out();
+            let (s, l, v) = (stack.theirs(), list.theirs(), second.theirs());
+            let word = closed.unwrap_or(0);
+            let expected = parse_restricted(table, input, word, s, l, v, limit).out();
             if out != expected {
                 return Err(format!("answer {out:?}, expected {expected:?}"));
             }
@@ -180,14 +228,17 @@ impl Readings {
         Ok(Outcome::from_out(out))
     }
 
-    /// The refusal of an input; the maker's table has none.
-    fn refusal(&self, grammar: &Grammar, input: &[u8]) -> u64 {
-        if input.iter().any(|&m| m == 0 || m as usize >= grammar.card.terminals) {
+    /// The refusal of an input or a word; the maker's table has none.
+    fn refusal(&self, grammar: &Grammar, input: &[u8], closed: u64) -> u64 {
+        let terminals = grammar.card.terminals;
+        if input.iter().any(|&m| m == 0 || m as usize >= terminals) {
             26
         } else if self.stack.length == 0 {
             27
         } else if self.second.length < self.stack.length {
             45
+        } else if closed & 1 == 1 || terminals < 64 && closed >> terminals != 0 {
+            50
         } else {
             0
         }
@@ -199,35 +250,56 @@ impl Readings {
         grammar: &Grammar,
         table: &[u16],
         input: &[u8],
+        closed: u64,
         end: &Outcome,
         thorough: bool,
     ) -> Result<(), String> {
-        let refusal = self.refusal(grammar, input);
+        let refusal = self.refusal(grammar, input, closed);
         if refusal != 0 {
-            self.counts.refused += 1;
-            self.counts.second_short += u64::from(refusal == 45);
-            let told = end.number == refusal;
-            return told.then_some(()).ok_or(format!("ended with {}, not {refusal}", end.number));
+            return self.refused(refusal, end);
         }
-        let known = recognise(grammar, input);
-        let (stack, list) = (self.stack.length as u64, self.list.length as u64);
+        // Wrong at the first closed terminal, or before it where those before are.
+        let first = input.iter().position(|&m| closed >> m & 1 == 1);
+        let mut known = recognise(grammar, &input[..first.unwrap_or(input.len())]);
+        self.counts.closed.count(closed, first, end, known);
+        known.sentence &= first.is_none();
         match end.number {
             0 => self.accepted(grammar, input, end, known)?,
             31 => {
                 self.wrong(input, end, known)?;
-                self.offer(grammar, table, input, end, known, thorough)?;
+                self.offer(grammar, &input[..known.begins], closed, end, known, thorough)?;
+                if closed == 0 {
+                    self.count_offer(table, end);
+                }
             }
             46 => {
                 self.wrong(input, end, known)?;
                 self.no_offer(end)?;
             }
-            32 if end.steps == self.limit => self.counts.ran_out += 1,
-            33 if end.depth == stack => self.counts.ran_out += 1,
-            34 if end.listed == list => self.counts.ran_out += 1,
-            number => return Err(format!("ended with {number}")),
+            _ => self.ran_out(end)?,
         }
         let zero = self.second.ours().iter().all(|&place| place == 0);
         zero.then_some(()).ok_or("the second area is not zero".into())
+    }
+
+    fn refused(&mut self, refusal: u64, end: &Outcome) -> Result<(), String> {
+        self.counts.refused += 1;
+        self.counts.second_short += u64::from(refusal == 45);
+        self.counts.closed.refused += u64::from(refusal == 50);
+        let told = end.number == refusal;
+        told.then_some(()).ok_or(format!("ended with {}, not {refusal}", end.number))
+    }
+
+    /// 32, 33 or 34, and no steps or places left.
+    fn ran_out(&mut self, end: &Outcome) -> Result<(), String> {
+        let none_left = match end.number {
+            32 => end.steps == self.limit,
+            33 => end.depth == self.stack.length as u64,
+            34 => end.listed == self.list.length as u64,
+            _ => false,
+        };
+        self.counts.ran_out += u64::from(none_left);
+        none_left.then_some(()).ok_or(format!("ended with {}", end.number))
     }
 
     fn accepted(
@@ -277,36 +349,39 @@ impl Readings {
         Ok(())
     }
 
-    /// The expected set of 31 is what can follow the terminals before the position.
+    /// The expected set of 31 is what can follow the terminals before the position, but for
+    /// closed ones.
     fn offer(
         &mut self,
         grammar: &Grammar,
-        table: &[u16],
-        input: &[u8],
+        before: &[u8],
+        closed: u64,
         end: &Outcome,
         known: Recognition,
         thorough: bool,
     ) -> Result<(), String> {
         let (found, many) = (end.expected, u64::from(end.expected.count_ones()));
-        if found != known.follow || end.expected_count != many {
-            let wanted = known.follow;
+        let wanted = known.follow & !closed;
+        if found != wanted || end.expected_count != many {
             return Err(format!(
                 "expected set {found:x} of {}, not {wanted:x}",
                 end.expected_count
             ));
         }
-        let before = &input[..known.begins];
         if thorough && before.len() < 63 && grammar.card.terminals < 12 {
             self.counts.by_spans += 1;
-            if found != follow(grammar, before) {
+            if found != follow(grammar, before) & !closed {
                 return Err(format!("expected set {found:x}, but not by spans"));
             }
         }
+        Ok(())
+    }
+
+    fn count_offer(&mut self, table: &[u16], end: &Outcome) {
         let top = self.stack.ours[end.depth as usize - 1];
-        self.counts.moved += u64::from(found != top_row(table, top));
+        self.counts.moved += u64::from(end.expected != top_row(table, top));
         let short = self.stack.length < 12;
         self.counts.saved += u64::from(short && self.second.length > self.stack.length);
-        Ok(())
     }
 
     /// 46 has no expected set, and comes only where steps or places are few.
@@ -327,6 +402,26 @@ pub fn top_row(table: &[u16], state: u16) -> u64 {
     let [q, t, n, p] = [0, 1, 2, 3].map(|at| table[at] as usize);
     let row = &table[4 + 2 * p + q + state as usize * (t + n)..][..t];
     row.iter().enumerate().filter(|(_, &cell)| cell != 0).fold(0, |set, (m, _)| set | 1 << m)
+}
+
+/// A word of closed terminals: none, some, one that the input has, those that it does not
+/// have; one in ten is bad.
+pub fn closed_word(random: &mut Random, terminals: usize, input: &[u8]) -> u64 {
+    let all = u64::MAX >> (64 - terminals) & !1;
+    let bit = |m: u8| 1u64.checked_shl(m.into()).unwrap_or(0) & all;
+    let met = input.iter().fold(0, |word, &m| word | bit(m));
+    match random.below(20) {
+        0 => 0,
+        1 => all,
+        2..=4 => random.draw() & all,
+        5..=9 => random.draw() & random.draw() & all,
+        10..=14 if !input.is_empty() => bit(*random.pick(input)),
+        15 | 16 => all & !met,
+        17 => all & !met & random.draw(),
+        18 => *random.pick(&[1, 1 << (terminals % 64), u64::MAX, 1 << 63 | 1]),
+        19 => random.draw() & all | 1 << random.below(64),
+        _ => random.draw() & all & !met,
+    }
 }
 
 /// A sentence, one with a change, the beginning of one, or any terminals; one in

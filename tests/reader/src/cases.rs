@@ -1,8 +1,10 @@
 // Random cases: tables of random grammars, random tables that pass the check, damaged ones, ones without entering
-// symbols; inputs, areas with old contents, and step limits.
+// symbols; inputs, words of closed terminals, areas with old contents, and step limits.
 use crate::lalr::{self, Grammar};
 use crate::reference::{self, Lent};
+use std::rc::Rc;
 
+#[derive(Clone)]
 pub struct Random(u64);
 
 impl Random {
@@ -37,10 +39,12 @@ impl Random {
     }
 }
 
-#[derive(Default)]
+#[derive(Clone, Default)]
 pub struct Case {
     pub table: Vec<u16>,
     pub input: Vec<u8>,
+    // The choir's word; the publisher's call has none.
+    pub closed: u64,
     pub stack: Vec<u16>,
     pub list: Vec<u16>,
     pub second: Vec<u16>,
@@ -293,6 +297,38 @@ fn step_limit(r: &mut Random) -> u64 {
     }
 }
 
+// A word of closed terminals: none, all, some, one that the input has (the first, the last or any), ones that it does not
+// have; now and then with bit 0 or with bits from T on.
+fn closed_word(r: &mut Random, table: &[u16], input: &[u8]) -> u64 {
+    let t = table.get(1).map_or(1, |&t| t as usize).clamp(1, 64);
+    let all = u64::MAX >> (64 - t) & !1;
+    let bit = |m: u8| 1u64.checked_shl(m.into()).unwrap_or(0) & all;
+    let met = input.iter().fold(0, |word, &m| word | bit(m));
+    let of_input = |at: usize| input.get(at).map_or(0, |&m| bit(m));
+    let any = r.next();
+    let few = any & r.next() & r.next() & all;
+    // Else most readings would end at once.
+    let first = if r.one_in(4) { 0 } else { of_input(0) };
+    match r.below(40) {
+        0..=4 => 0,
+        5 => all,
+        6..=8 => r.next() & all & !first,
+        9..=12 => few & !first,
+        13 | 14 => bit(r.below(t) as u8) & !first,
+        15 => bit(t as u8 - 1) & !first,
+        16 | 17 => of_input(0),
+        18..=21 => of_input(input.len().wrapping_sub(1)) & !first,
+        22..=27 => of_input(r.below(input.len() + 1)) & !first,
+        28..=30 => (of_input(r.below(input.len() + 1)) | few) & !first,
+        31..=33 => all & !met,
+        34 | 35 => all & !met & r.next(),
+        36 => few | 1,
+        37 => few | 1 << t.min(63),
+        38 => few | 1 << r.between(t.min(63), 63),
+        _ => r.of(&[u64::MAX, u64::MAX << t.min(63), 1 << 63, any]),
+    }
+}
+
 fn fill(r: &mut Random, area: &mut Vec<u16>, n: usize) {
     area.clear();
     while area.len() < n {
@@ -333,10 +369,14 @@ fn second_length(r: &mut Random, stack: usize) -> usize {
     }
 }
 
+// A copy begins where the original is.
+#[derive(Clone)]
 pub struct Cases {
     random: Random,
+    // For the words.
+    words: Random,
     pub case: Case,
-    languages: Vec<Language>,
+    languages: Rc<[Language]>,
     foreign: Vec<u16>,
     count: u64,
     scratch: [Vec<u16>; 3],
@@ -357,7 +397,8 @@ impl Cases {
             languages.extend(Language::new(wide_grammar(&mut random)));
         }
         let scratch = [(); 3].map(|_| vec![0; 4000]);
-        Cases { random, case: Case::default(), languages, foreign: Vec::new(), count: 0, scratch }
+        let (words, languages) = (Random::new(!seed), languages.into());
+        Cases { random, words, case: Case::default(), languages, foreign: Vec::new(), count: 0, scratch }
     }
 
     // Makes the next case.
@@ -366,6 +407,7 @@ impl Cases {
         self.case.without_entered = false;
         if self.count % 2500 == 1 {
             huge(&mut self.random, &mut self.case, &self.languages, &mut self.foreign);
+            self.huge_word();
             return;
         }
         self.case.input.clear();
@@ -376,6 +418,7 @@ impl Cases {
             self.foreign();
         }
         let entered_otherwise = self.damaged();
+        self.case.closed = closed_word(&mut self.words, &self.case.table, &self.case.input);
         let r = &mut self.random;
         let mut lengths = Lengths::new(r);
         self.case.limit = step_limit(r);
@@ -459,11 +502,24 @@ impl Cases {
         entered_otherwise
     }
 
-    // Limits that are just reached, or just missed, by the reading or by its fresh readings.
+    // The word of a huge case: often the last terminal, another than those before it, is closed.
+    fn huge_word(&mut self) {
+        let (r, c) = (&mut self.words, &mut self.case);
+        let others = (1..c.table[1] as u8).filter(|m| !c.input.contains(m)).collect::<Vec<u8>>();
+        if let (Some(last), false, true) = (c.input.last_mut(), others.is_empty(), r.one_in(2)) {
+            *last = r.of(&others);
+            c.closed = 1 << *last;
+            return;
+        }
+        c.closed = closed_word(r, &c.table, &c.input);
+    }
+
+    // Limits that are just reached, or just missed, by the reading or by its fresh readings: the publisher's or the choir's.
     fn just_enough(&mut self) -> Lengths {
         let (r, c) = (&mut self.random, &mut self.case);
         let [stack, list, second] = &mut self.scratch;
-        let o = reference::parse(&c.table, &c.input, Lent { stack, list, second }, 3000);
+        let closed = if self.words.one_in(2) { c.closed } else { 0 };
+        let o = reference::parse(&c.table, &c.input, closed, Lent { stack, list, second }, 3000);
         let mut lengths = Lengths { stack: 1000, list: 1000, second: 1000 };
         c.limit = u64::MAX;
         let off = r.below(3);

@@ -1,14 +1,15 @@
-// What bindings/c/sidumza.h says of the lengths to lend. One less is not enough: there are cases that need all of it.
+// What bindings/c/sidumza.h says of the lengths to lend, to both calls. One less is not enough: there are cases that need
+// all of it.
 use crate::cases::{Case, Cases};
-use crate::reference::{self, Lent};
-use sidumza::parse;
+use crate::reference::{self, bad_closed, Lent};
+use crate::{wrapped, Entry, ENTRIES};
+use sidumza::Answer;
 
 // The answer's number and expected set, with so many places in stack and second area.
-fn answer(c: &Case, places: [usize; 2], steps: usize) -> (u32, u64) {
-    let [mut stack, mut second] = places.map(|n| vec![0; n]);
-    let answer = parse(&c.table, &c.input, &mut stack, &mut c.list.clone(), &mut second, steps as u64);
-    match answer {
-        sidumza::Answer::NoAction { expected, .. } => (31, expected),
+fn answer(entry: Entry, c: &Case, places: [usize; 2], steps: usize) -> (u32, u64) {
+    let ([stack, second], list) = (&mut places.map(|n| vec![0; n]), &mut c.list.clone());
+    match wrapped(c, entry, Lent { stack, list, second }, steps as u64) {
+        Answer::NoAction { expected, .. } => (31, expected),
         other => (other.number(), 0),
     }
 }
@@ -34,9 +35,9 @@ struct Counts {
 
 impl Counts {
     // The reading itself: input_len + list_len + 1 steps and places, and input_len + 1 places where no production is empty.
-    fn reading(&mut self, c: &Case) -> Result<(), String> {
+    fn reading(&mut self, entry: Entry, c: &Case) -> Result<(), String> {
         let most = c.input.len() + c.list.len() + 1;
-        let number = |places: usize, steps: usize| answer(c, [places, places], steps).0;
+        let number = |places: usize, steps: usize| answer(entry, c, [places, places], steps).0;
         let end = number(most, most);
         if end == 32 || end == 33 {
             return Err(format!("{end} with {most} places and steps"));
@@ -57,10 +58,10 @@ impl Counts {
 
     // The fresh readings, where they reduce no more often than the list has places: input_len + list_len + 1 steps and one
     // place more; input_len + 2 places where no production is empty; and one place more than there are steps, always.
-    fn fresh(&mut self, c: &Case) -> Result<(), String> {
+    fn fresh(&mut self, entry: Entry, c: &Case) -> Result<(), String> {
         let most = c.input.len() + c.list.len() + 1;
         let plenty = most + 50;
-        let with = |second: usize, steps: usize| answer(c, [1.max(c.input.len()).min(second), second], steps);
+        let with = |second: usize, steps: usize| answer(entry, c, [1.max(c.input.len()).min(second), second], steps);
         let by_limit = 20;
         if with(by_limit + 1, by_limit) != with(by_limit + 50, by_limit) {
             return Err(format!("{} places are too few for {by_limit} steps", by_limit + 1));
@@ -68,12 +69,13 @@ impl Counts {
         self.second_by_limit += (with(by_limit, by_limit) != with(by_limit + 50, by_limit)) as u64;
         let mut areas = [vec![0; plenty], c.list.clone(), vec![0; plenty]];
         let [stack, list, second] = &mut areas;
-        let o = reference::parse(&c.table, &c.input, Lent { stack, list, second }, plenty as u64);
+        let closed = entry.closed(c).unwrap_or(0);
+        let o = reference::parse(&c.table, &c.input, closed, Lent { stack, list, second }, plenty as u64);
         if o.out[0] != 31 || o.past_list {
             return Ok(());
         }
         self.fresh += 1;
-        let places = |second: usize, steps: usize| answer(c, [o.high.min(second), second], steps);
+        let places = |second: usize, steps: usize| answer(entry, c, [o.high.min(second), second], steps);
         let right = (31, o.out[5]);
         if places(most + 1, most) != right {
             return Err(format!("46 with {most} steps and a place more"));
@@ -89,33 +91,44 @@ impl Counts {
         }
         Ok(())
     }
+
+    // Prints it; whether each length was needed.
+    fn all(&self, of: &str) -> bool {
+        let counts = [
+            ("one step less is too few", self.steps),
+            ("one place less", self.places),
+            ("one place less without empty productions", self.places_without_empty),
+            ("one step less for a fresh reading", self.fresh_steps),
+            ("one place less for a fresh reading", self.second),
+            ("one place less for one without empty productions", self.second_without_empty),
+            ("one place less for as many steps", self.second_by_limit),
+        ];
+        println!("{of}: {} cases, {} of them with fresh readings that the list would hold", self.ran, self.fresh);
+        counts.iter().for_each(|(what, many)| println!("{what}: {many}"));
+        counts.iter().all(|(_, many)| *many > 0)
+    }
 }
 
 pub fn enough(seed: u64, count: u64) -> bool {
     let mut cases = Cases::new(seed);
-    let mut all = Counts::default();
+    let mut all = <[Counts; 2]>::default();
     for k in 0..count {
         cases.step();
         let c = &cases.case;
-        let refused = answer(c, [1, 1], 0).0;
+        let refused = answer(Entry::Publisher, c, [1, 1], 0).0;
         if (21..=27).contains(&refused) || refused == 44 {
             continue;
         }
-        if let Err(what) = all.reading(c).and_then(|()| all.fresh(c)) {
-            println!("case {k} of seed {seed}: {what}");
-            return false;
+        for (entry, all) in ENTRIES.into_iter().zip(&mut all) {
+            if entry.closed(c).is_some_and(|word| bad_closed(word, c.table[1])) {
+                continue;
+            }
+            if let Err(what) = all.reading(entry, c).and_then(|()| all.fresh(entry, c)) {
+                println!("case {k} of seed {seed}: {what}");
+                return false;
+            }
         }
     }
-    let counts = [
-        ("one step less is too few", all.steps),
-        ("one place less", all.places),
-        ("one place less without empty productions", all.places_without_empty),
-        ("one step less for a fresh reading", all.fresh_steps),
-        ("one place less for a fresh reading", all.second),
-        ("one place less for one without empty productions", all.second_without_empty),
-        ("one place less for as many steps", all.second_by_limit),
-    ];
-    println!("{} cases, {} of them with fresh readings that the list would hold", all.ran, all.fresh);
-    counts.iter().for_each(|(what, many)| println!("{what}: {many}"));
-    counts.iter().all(|(_, many)| *many > 0)
+    let [publisher, choir] = all;
+    publisher.all("the publisher's call") & choir.all("the choir's")
 }

@@ -1,5 +1,6 @@
 // The fresh readings of the second reader, with its switch for a fault: over a vector of states, and with numbers for
 // what they may use.
+use crate::closed;
 use crate::wrong::{Call, Spot, Table};
 
 // A fresh reading.
@@ -186,7 +187,7 @@ fn found(table: &Table, c: &Call, s: &Spot) -> Found {
     let before = before(table.fault, c.input, s);
     for m in 0..table.at(1) {
         let mut reading = fresh(table, c, s);
-        let end = taken(table, m, reading.line(before, m));
+        let Some(end) = closed::taken(table, c, s, m, || taken(table, m, reading.line(before, m))) else { continue };
         all.steps += reading.steps;
         all.last_steps = reading.steps;
         all.high = all.high.max(reading.high);
@@ -218,6 +219,7 @@ fn set(table: &Table, c: &Call, s: &Spot, all: &Found) -> u64 {
         "31: end marker offered for any action" => all.set | row(table, last) & 1,
         "31: only the lowest offered" => all.set & all.set.wrapping_neg(),
         "31: expected word of 32 bits" => all.set % (1 << 32) | all.set >> 32,
+        "closed: row offered at a closed terminal" if s.barred => row(table, s.top) & !c.closed.unwrap_or(0),
         _ => all.set,
     }
 }

@@ -1,5 +1,6 @@
 // An independent reader, written from the paper alone: the refusals in order, then the machine over a
 // growing vector, and behind its 31 a fresh reading for each terminal. The areas are filled in at the end.
+// It is the choir's, with a word of closed terminals; the publisher's is that with word 0.
 
 #[derive(Default)]
 pub struct Outcome {
@@ -55,11 +56,15 @@ pub fn unnamed(table: &[u16]) -> Vec<u16> {
     (1..states).filter(|&state| !named[state]).map(|state| entered[state]).collect()
 }
 
+// The cell of a terminal in the row of a state.
+pub fn action(table: &[u16], state: u16, terminal: u8) -> u16 {
+    let symbols = (table[1] + table[2]) as usize;
+    parts(table)[3][state as usize * symbols + terminal as usize]
+}
+
 // The terminals whose cell in the row of a state is not 0.
 pub fn top_row(table: &[u16], state: u16) -> u64 {
-    let [terminals, symbols] = [table[1], table[1] + table[2]].map(usize::from);
-    let row = &parts(table)[3][state as usize * symbols..];
-    (0..terminals).filter(|&m| row[m] != 0).map(|m| 1 << m).sum()
+    (0..table[1] as u8).filter(|&m| action(table, state, m) != 0).map(|m| 1 << m).sum()
 }
 
 // The refusals of a table, in order.
@@ -99,7 +104,16 @@ fn table_refusal(table: &[u16]) -> Option<u64> {
     entered_faults(table).contains(&true).then_some(44)
 }
 
-fn refusal(table: &[u16], input: &[u8], stack_len: usize, second_len: usize) -> Option<u64> {
+pub fn has(word: u64, terminal: u8) -> bool {
+    word >> terminal & 1 == 1
+}
+
+// Whether a word of closed terminals has bit 0 or a bit from T on.
+pub fn bad_closed(closed: u64, terminals: u16) -> bool {
+    (0..64).any(|m| has(closed, m) && (m == 0 || u16::from(m) >= terminals))
+}
+
+fn refusal(table: &[u16], input: &[u8], closed: u64, [stack_len, second_len]: [usize; 2]) -> Option<u64> {
     if let Some(number) = table_refusal(table) {
         return Some(number);
     }
@@ -112,15 +126,19 @@ fn refusal(table: &[u16], input: &[u8], stack_len: usize, second_len: usize) -> 
     if stack_len == 0 {
         return Some(27);
     }
-    (second_len < stack_len).then_some(45)
+    if second_len < stack_len {
+        return Some(45);
+    }
+    bad_closed(closed, table[1]).then_some(50)
 }
 
-// The machine: a table, and what it may use.
+// The machine: a table, what is closed to it, and what it may use.
 struct Machine<'a> {
     left: &'a [u16],
     length: &'a [u16],
     cells: &'a [u16],
     symbols: usize,
+    closed: u64,
     places: usize,
     // None: no list.
     list: Option<usize>,
@@ -196,8 +214,12 @@ impl Machine<'_> {
     fn read(&self, run: &mut Run, input: &[u8], over: usize) -> Option<u64> {
         let mut waited = 0;
         while run.position < over {
-            let next = input.get(run.position).copied().unwrap_or(0);
-            if let Err(end) = self.step(run, next) {
+            let next = input.get(run.position).copied();
+            // A closed next terminal is wrong before all else. At the end there is none.
+            if next.is_some_and(|m| has(self.closed, m)) {
+                return Some(31);
+            }
+            if let Err(end) = self.step(run, next.unwrap_or(0)) {
                 return Some(end);
             }
             waited += (run.position + 1 == over) as u64;
@@ -209,15 +231,22 @@ impl Machine<'_> {
     }
 }
 
-// The fresh readings over the terminals before the position: what is offered, or None where one stops. All are made,
-// also behind one that stops: another reader may take them in another order, and wait for one without an end.
-fn offer(machine: &Machine, terminals: usize, before: &[u8], list: usize, o: &mut Outcome) -> Option<u64> {
+// The fresh readings over the terminals before the position, one for each terminal that is open: what is offered, or None
+// where one stops. All are made, also behind one that stops: another reader may take them in another order, and wait for
+// one without an end.
+fn offer(
+    machine: &Machine,
+    open: impl Iterator<Item = u8>,
+    before: &[u8],
+    list: usize,
+    o: &mut Outcome,
+) -> Option<u64> {
     let mut line = before.to_vec();
     let mut offered = 0;
-    for m in 0..terminals {
+    for m in open {
         line.truncate(before.len());
         if m > 0 {
-            line.push(m as u8);
+            line.push(m);
         }
         let mut run = machine.start();
         let end = machine.read(&mut run, &line, before.len() + 1);
@@ -241,10 +270,10 @@ pub struct Lent<'a> {
     pub second: &'a mut [u16],
 }
 
-pub fn parse(table: &[u16], input: &[u8], lent: Lent, step_limit: u64) -> Outcome {
+pub fn parse(table: &[u16], input: &[u8], closed: u64, lent: Lent, step_limit: u64) -> Outcome {
     let Lent { stack, list, second } = lent;
     let mut o = Outcome::default();
-    if let Some(n) = refusal(table, input, stack.len(), second.len()) {
+    if let Some(n) = refusal(table, input, closed, [stack.len(), second.len()]) {
         o.out[0] = n;
         return o;
     }
@@ -252,7 +281,7 @@ pub fn parse(table: &[u16], input: &[u8], lent: Lent, step_limit: u64) -> Outcom
     let symbols = terminals + table[2] as usize;
     let [left, length, _, cells] = parts(table);
     let (places, places_of_list) = (stack.len(), list.len());
-    let mut machine = Machine { left, length, cells, symbols, places, list: Some(places_of_list), step_limit };
+    let mut machine = Machine { left, length, cells, symbols, closed, places, list: Some(places_of_list), step_limit };
     let mut run = machine.start();
     // The input's end is never shifted.
     let number = machine.read(&mut run, input, usize::MAX).unwrap();
@@ -262,10 +291,11 @@ pub fn parse(table: &[u16], input: &[u8], lent: Lent, step_limit: u64) -> Outcom
     o.high = run.high;
     o.out = [number, run.steps, run.states.len() as u64, run.reduced.len() as u64, 0, 0, 0];
     if number == 31 {
-        machine.places = second.len();
-        machine.list = None;
+        // Fresh readings are the publisher's.
+        (machine.closed, machine.places, machine.list) = (0, second.len(), None);
+        let open = (0..terminals as u8).filter(|&m| !has(closed, m));
         o.out[4] = run.position as u64;
-        match offer(&machine, terminals, &input[..run.position], places_of_list, &mut o) {
+        match offer(&machine, open, &input[..run.position], places_of_list, &mut o) {
             Some(set) => (o.out[5], o.out[6]) = (set, (0..64).filter(|m| set >> m & 1 == 1).count() as u64),
             None => o.out[0] = 46,
         }

@@ -1,6 +1,6 @@
 // What the cases were: how often each answer came, and how often what only some readers get wrong.
 use crate::cases::Case;
-use crate::reference::{self, Outcome};
+use crate::reference::{self, bad_closed, has, Outcome};
 use std::collections::BTreeMap;
 
 // What was counted, how often, and how often it must be.
@@ -14,14 +14,16 @@ pub struct Seen {
     limits: Limits,
     offers: Offers,
     second: Second,
+    closed: Closed,
     // Limits that were made smaller, since a fresh reading had no end in sight.
     pub endless: u64,
 }
 
 impl Seen {
-    // Counts a case with its answer and the stack area after it.
-    pub fn count(&mut self, c: &Case, o: &Outcome, stack: &[u16]) {
+    // Counts a case with the answers of both calls, and the stack areas after them.
+    pub fn count(&mut self, c: &Case, [o, choir]: &[Outcome; 2], [stack, choirs]: [&[u16]; 2]) {
         *self.numbers.entry(o.out[0]).or_insert(0) += 1;
+        self.closed.count(c, o, choir, choirs);
         self.entered.count(c, o.out[0]);
         self.limits.count(c.limit, &o.out);
         self.offers.count(c, o, stack);
@@ -43,7 +45,8 @@ impl Seen {
         }
         let endless: Counted = ("a fresh reading without an end in sight, limit lowered", self.endless, 100);
         let parts = [self.entered.all().to_vec(), self.limits.all().to_vec(), self.offers.all().to_vec()];
-        for (what, many, least) in parts.concat().into_iter().chain(self.second.all()).chain([endless]) {
+        let more = self.second.all().into_iter().chain(self.closed.all()).chain([endless]);
+        for (what, many, least) in parts.concat().into_iter().chain(more) {
             let few = many < least;
             println!("{what}: {many}{}", if few { format!(", under {least} times") } else { String::new() });
             good &= !few;
@@ -244,5 +247,175 @@ impl Second {
             ("31 where a fresh reading used more places than the stack has", self.past_stack, 100),
             ("46 by 33 alone in a second area longer than the stack", self.full, 100),
         ]
+    }
+}
+
+// How often the choir's call met what only some readers of closed terminals get wrong.
+#[derive(Default)]
+struct Closed {
+    // 50 for bit 0, for bit T, and for one behind it, each alone; for all 64 bits; with 64 terminals. Bit 63 taken.
+    bits: [u64; 3],
+    every: u64,
+    wide: u64,
+    last_bit: u64,
+    // Another refusal although the word is bad: 24, 44, 25, 26, 27 and 45.
+    beside: [u64; 6],
+    without: Without,
+    at: AtClosed,
+    // Wrong before the first closed terminal, and stopped there by 32, 33, 34 and 35.
+    before: [u64; 5],
+}
+
+// Inputs without closed terminals, by words that close some: accepted; 31 with fewer terminals than the publisher's; 31 for
+// the publisher's 46; 46 for both.
+#[derive(Default)]
+struct Without {
+    accepted: u64,
+    narrowed: u64,
+    relieved: u64,
+    unknown: u64,
+}
+
+impl Without {
+    fn count(&mut self, publisher: &Outcome, choir: &Outcome) {
+        let numbers = [publisher.out[0], choir.out[0]];
+        self.accepted += (numbers == [0, 0]) as u64;
+        self.narrowed += (numbers == [31, 31] && choir.out[5] != publisher.out[5]) as u64;
+        self.relieved += (numbers == [46, 31]) as u64;
+        self.unknown += (numbers == [46, 46]) as u64;
+    }
+
+    fn all(&self) -> [Counted; 4] {
+        [
+            ("nothing closed in the input: accepted", self.accepted, 100),
+            ("nothing closed in the input: a smaller set than the publisher's", self.narrowed, 100),
+            ("nothing closed in the input: 31 for the publisher's 46", self.relieved, 100),
+            ("nothing closed in the input: 46 for both", self.unknown, 100),
+        ]
+    }
+}
+
+// Ends at a closed terminal.
+#[derive(Default)]
+struct AtClosed {
+    // It is the first, the last, or the last of 65,535 of the input.
+    first: u64,
+    last: u64,
+    longest: u64,
+    // No step, no place of the stack, or none of the list is left.
+    limits: [u64; 3],
+    // The publisher's reading goes on with a shift, with a reduction, or has no action for it.
+    shifted: u64,
+    reduced: u64,
+    wrong: u64,
+    // 46; 31 where the publisher's is 46 there; 31 with an empty set, with the end marker, and with others.
+    unknown: u64,
+    relieved: u64,
+    sets: [u64; 3],
+}
+
+impl AtClosed {
+    fn count(&mut self, c: &Case, publisher: &Outcome, choir: &Outcome, stack: &[u16]) {
+        let [number, steps, depth, listed, position, set, _] = choir.out;
+        self.first += (position == 0) as u64;
+        self.last += (position + 1 == c.input.len() as u64) as u64;
+        self.longest += (position == 65534) as u64;
+        let left = [steps == c.limit, depth == c.stack.len() as u64, listed == c.list.len() as u64];
+        self.limits.iter_mut().zip(left).for_each(|(many, none)| *many += none as u64);
+        let action = reference::action(&c.table, stack[depth as usize - 1], c.input[position as usize]);
+        let further = publisher.out[1] > steps;
+        self.shifted += (further && action < 1024) as u64;
+        self.reduced += (further && action >= 1024) as u64;
+        self.wrong += (action == 0) as u64;
+        let both = matches!(publisher.out[0], 31 | 46) && publisher.out[4] == position;
+        self.unknown += (number == 46) as u64;
+        self.relieved += (both && [publisher.out[0], number] == [46, 31]) as u64;
+        let sets = [set == 0, set == 1, set > 1];
+        self.sets.iter_mut().zip(sets).for_each(|(many, it)| *many += (number == 31 && it) as u64);
+    }
+
+    fn all(&self) -> [Counted; 14] {
+        let ([left, room, listed], [empty, end, others]) = (self.limits, self.sets);
+        [
+            ("at a closed terminal, the first", self.first, 100),
+            ("at a closed terminal, the last", self.last, 100),
+            ("at a closed terminal, no step left", left, 100),
+            ("at a closed terminal, no place of the stack left", room, 100),
+            ("at a closed terminal, no place of the list left", listed, 100),
+            ("at a closed terminal that the publisher's shifts", self.shifted, 100),
+            ("at a closed terminal under which the publisher's reduces", self.reduced, 100),
+            ("at a closed terminal for which the publisher's has no action", self.wrong, 100),
+            ("at a closed terminal, 46", self.unknown, 100),
+            ("at a closed terminal, 31 for the publisher's 46 there", self.relieved, 100),
+            ("at a closed terminal, 31 with an empty set", empty, 100),
+            ("at a closed terminal, 31 with the end marker alone", end, 100),
+            ("at a closed terminal, 31 with others", others, 100),
+            ("at a closed terminal, the last of 65535", self.longest, 10),
+        ]
+    }
+}
+
+impl Closed {
+    fn refused(&mut self, c: &Case) {
+        let (terminals, only) = (c.table[1] as u32, |bad: u64| c.closed & bad != 0);
+        let from = |m: u32| u64::MAX.checked_shl(m).unwrap_or(0);
+        let reasons = [1, from(terminals) & !from(terminals + 1), from(terminals + 1)].map(only);
+        for (way, many) in self.bits.iter_mut().enumerate() {
+            *many += (reasons[way] && reasons.iter().filter(|&&reason| reason).count() == 1) as u64;
+        }
+        self.every += (c.closed == u64::MAX) as u64;
+        self.wide += (terminals == 64) as u64;
+    }
+
+    fn count(&mut self, c: &Case, publisher: &Outcome, choir: &Outcome, stack: &[u16]) {
+        let number = choir.out[0];
+        if number == 50 {
+            self.refused(c);
+            return;
+        }
+        if choir.out[2] == 0 {
+            let bad = c.table.get(1).is_some_and(|&terminals| bad_closed(c.closed, terminals));
+            for (many, refusal) in self.beside.iter_mut().zip([24, 44, 25, 26, 27, 45]) {
+                *many += (bad && number == refusal) as u64;
+            }
+            return;
+        }
+        self.last_bit += c.closed >> 63;
+        let Some(first) = c.input.iter().position(|&m| has(c.closed, m)) else {
+            if c.closed != 0 {
+                self.without.count(publisher, choir);
+            }
+            return;
+        };
+        match number {
+            31 | 46 if choir.out[4] == first as u64 => self.at.count(c, publisher, choir, stack),
+            31 | 46 => self.before[0] += 1,
+            _ => self.before[number as usize - 31] += 1,
+        }
+    }
+
+    fn all(&self) -> Vec<Counted> {
+        let ([zero, t, above], [cell, entered, long, terminal, stack, second]) = (self.bits, self.beside);
+        let [wrong, steps, place, list, broken] = self.before;
+        let own = [
+            ("50 for bit 0 alone", zero, 100),
+            ("50 for bit T alone", t, 100),
+            ("50 for bits behind T alone", above, 100),
+            ("50 for all bits", self.every, 100),
+            ("50 with 64 terminals", self.wide, 100),
+            ("a word with bit 63 taken", self.last_bit, 100),
+            ("24 beside 50", cell, 100),
+            ("44 beside 50", entered, 100),
+            ("25 beside 50", long, 10),
+            ("26 beside 50", terminal, 100),
+            ("27 beside 50", stack, 100),
+            ("45 beside 50", second, 100),
+            ("wrong before a closed terminal", wrong, 100),
+            ("32 before a closed terminal", steps, 100),
+            ("33 before a closed terminal", place, 100),
+            ("34 before a closed terminal", list, 100),
+            ("35 before a closed terminal", broken, 100),
+        ];
+        [&own[..], &self.without.all(), &self.at.all()].concat()
     }
 }

@@ -1,6 +1,7 @@
 // A second reader, as one loop over the areas, with a switch for a deliberate fault. Without a fault
-// it is right; each fault must be found by the test. Its fresh readings are in `offers`.
-use crate::offers;
+// it is right; each fault must be found by the test. Its fresh readings are in `offers`, what it makes of closed terminals
+// in `closed`.
+use crate::{closed, offers};
 
 pub const FAULTS: [&str; 166] = [
     "none",
@@ -171,6 +172,72 @@ pub const FAULTS: [&str; 166] = [
     "steps with the limit's upper half",
 ];
 
+// Faults of the choir's call alone.
+pub const CLOSED: [&str; 62] = [
+    "50: not checked",
+    "50: bit 0 passes",
+    "50: bit T passes",
+    "50: bits above T pass",
+    "50: bits from T on pass",
+    "50: terminal T - 1 refused",
+    "50: shift by 64 with 64 terminals",
+    "50: word 0 refused",
+    "50: lower half of the word checked",
+    "50: answered as 26",
+    "50: answered as 45",
+    "50: refusal writes the stack",
+    "50: refusal writes the list",
+    "50: refusal writes the second area",
+    "50 before 24",
+    "50 before 44",
+    "50 before 25",
+    "50 before 26",
+    "50 before 27",
+    "50 before 45",
+    "closed: not tested",
+    "closed: tested at a shift alone",
+    "closed: after 32",
+    "closed: after 33",
+    "closed: after 34",
+    "closed: after 35",
+    "closed: first terminal of the input not tested",
+    "closed: last terminal of the input not tested",
+    "closed: the last one taken for the first",
+    "closed: the last terminal taken for closed",
+    "closed: the end taken for closed",
+    "closed: taken for the end",
+    "closed: terminal 63 not tested",
+    "closed: terminals from 32 on not tested",
+    "closed: terminals modulo 32",
+    "closed: bit m for terminal m + 1",
+    "closed: bit m for terminal m - 1",
+    "closed: bits of the open ones",
+    "closed: answered as 26",
+    "closed: answered as 35",
+    "closed: position one too far",
+    "closed: position of one behind a wrong terminal",
+    "closed: position left out",
+    "closed: shifted",
+    "closed: a step counted",
+    "closed: in the expected set",
+    "closed: in the expected set at a closed terminal",
+    "closed: in the expected set elsewhere",
+    "closed: the one met in the expected set",
+    "closed: counted in the expected set's size",
+    "closed: makes 46",
+    "closed: makes 46 at a closed terminal",
+    "closed: makes 46 elsewhere",
+    "closed: no 46 at a closed terminal",
+    "closed: no 46 where terminals are closed",
+    "closed: nothing expected at a closed terminal",
+    "closed: end marker not expected",
+    "closed: end marker not expected at a closed terminal",
+    "closed: row offered at a closed terminal",
+    "closed: second area left at a closed terminal",
+    "closed: list cleared at a closed terminal",
+    "closed: stack cleared at a closed terminal",
+];
+
 // A table with a switch for faults: where its parts begin.
 pub struct Table<'a> {
     pub fault: &'static str,
@@ -329,20 +396,26 @@ impl<'a> Table<'a> {
     }
 
     // The refusals behind 21 and 22, in order.
-    fn order(&self) -> [u64; 7] {
+    fn order(&self) -> [u64; 8] {
         match self.fault {
-            "24 before 23" => [24, 23, 44, 25, 26, 27, 45],
-            "44 before 23" => [44, 23, 24, 25, 26, 27, 45],
-            "44 before 24" => [23, 44, 24, 25, 26, 27, 45],
-            "44 after 25" => [23, 24, 25, 44, 26, 27, 45],
-            "44 after 26" => [23, 24, 25, 26, 44, 27, 45],
-            "44 after 27" => [23, 24, 25, 26, 27, 44, 45],
-            "27 before 26" => [23, 24, 44, 25, 27, 26, 45],
-            "45 before 24" => [23, 45, 24, 44, 25, 26, 27],
-            "45 before 44" => [23, 24, 45, 44, 25, 26, 27],
-            "45 before 25" => [23, 24, 44, 45, 25, 26, 27],
-            "45 before 26" => [23, 24, 44, 25, 45, 26, 27],
-            _ => [23, 24, 44, 25, 26, 27, 45],
+            "24 before 23" => [24, 23, 44, 25, 26, 27, 45, 50],
+            "44 before 23" => [44, 23, 24, 25, 26, 27, 45, 50],
+            "44 before 24" => [23, 44, 24, 25, 26, 27, 45, 50],
+            "44 after 25" => [23, 24, 25, 44, 26, 27, 45, 50],
+            "44 after 26" => [23, 24, 25, 26, 44, 27, 45, 50],
+            "44 after 27" => [23, 24, 25, 26, 27, 44, 45, 50],
+            "27 before 26" => [23, 24, 44, 25, 27, 26, 45, 50],
+            "45 before 24" => [23, 45, 24, 44, 25, 26, 27, 50],
+            "45 before 44" => [23, 24, 45, 44, 25, 26, 27, 50],
+            "45 before 25" => [23, 24, 44, 45, 25, 26, 27, 50],
+            "45 before 26" => [23, 24, 44, 25, 45, 26, 27, 50],
+            "50 before 24" => [23, 50, 24, 44, 25, 26, 27, 45],
+            "50 before 44" => [23, 24, 50, 44, 25, 26, 27, 45],
+            "50 before 25" => [23, 24, 44, 50, 25, 26, 27, 45],
+            "50 before 26" => [23, 24, 44, 25, 50, 26, 27, 45],
+            "50 before 27" => [23, 24, 44, 25, 26, 50, 27, 45],
+            "50 before 45" => [23, 24, 44, 25, 26, 27, 50, 45],
+            _ => [23, 24, 44, 25, 26, 27, 45, 50],
         }
     }
 
@@ -373,7 +446,8 @@ impl<'a> Table<'a> {
             25 => c.input.len() > 65535 + self.more("25: 65536 terminals pass"),
             26 => c.input.iter().any(|&b| b == 0 && zero || b as usize >= most),
             27 => c.stack.is_empty(),
-            _ => self.second_short(c.stack.len(), c.second.len()),
+            45 => self.second_short(c.stack.len(), c.second.len()),
+            _ => c.closed.is_some_and(|word| closed::bad(self.fault, word, self.at(1))),
         };
         self.order().into_iter().find(applies).unwrap_or(0)
     }
@@ -406,6 +480,8 @@ pub struct Call<'a> {
     pub list: &'a mut [u16],
     pub second: &'a mut [u16],
     pub limit: u64,
+    // The word of the choir's call; the publisher's has none.
+    pub closed: Option<u64>,
 }
 
 // Where a reading stands.
@@ -414,7 +490,9 @@ pub struct Spot {
     pub listed: usize,
     pub pos: usize,
     pub steps: u64,
-    top: usize,
+    pub top: usize,
+    // It stopped since the next terminal is closed.
+    pub barred: bool,
 }
 
 fn refused(table: &Table, refusal: u64, c: &mut Call) -> [u64; 7] {
@@ -424,11 +502,16 @@ fn refused(table: &Table, refusal: u64, c: &mut Call) -> [u64; 7] {
         (44, "44: refusal writes the stack") => c.stack.fill(0),
         (45, "45: refusal writes the second area") => c.second.fill(0),
         (45, "45: refusal writes the stack") => c.stack[0] = 0,
+        (50, "50: refusal writes the stack") => c.stack[0] = 0,
+        (50, "50: refusal writes the list") => c.list.fill(0),
+        (50, "50: refusal writes the second area") => c.second.fill(0),
         _ => {}
     }
     let told = match (refusal, table.fault) {
         (44, "44: answered as 24") => 24,
         (45, "45: answered as 27") => 27,
+        (50, "50: answered as 26") => 26,
+        (50, "50: answered as 45") => 45,
         _ => refusal,
     };
     [told, 0, 0, 0, 0, 0, 0]
@@ -477,8 +560,12 @@ fn reduce(table: &Table, c: &mut Call, s: &mut Spot, r: usize, room: usize) -> R
 // A step, or the end before it; 0 with the acceptance.
 fn step(table: &Table, c: &mut Call, s: &mut Spot, allowed: u64) -> Result<(), u64> {
     let room = c.stack.len() - table.more("33: one place kept free").min(c.stack.len() - 1);
-    let a = table.cell(s.top, c.input.get(s.pos).copied().unwrap_or(0) as usize);
+    let a = table.cell(s.top, closed::next(table, c, s));
     let out_of_steps = s.steps == allowed;
+    s.barred = closed::bars(table, c, s, a, out_of_steps);
+    if s.barred {
+        return Err(31);
+    }
     if table.is("31 after 32") && out_of_steps {
         return Err(32);
     }
@@ -521,8 +608,7 @@ fn numbers(table: &Table, end: u64, s: &Spot, limit: u64) -> [u64; 7] {
     [end, steps, depth, cut(s.listed, "listed counted in 16 bits"), 0, 0, 0]
 }
 
-pub fn parse(fault: usize, mut c: Call) -> [u64; 7] {
-    let fault = FAULTS[fault];
+pub fn parse(fault: &'static str, mut c: Call) -> [u64; 7] {
     if c.table.len() < 4 || fault == "21: table of 4 numbers refused" && c.table.len() == 4 {
         return [21, 0, 0, 0, 0, 0, 0];
     }
@@ -534,7 +620,7 @@ pub fn parse(fault: usize, mut c: Call) -> [u64; 7] {
     if !table.is("place 0 not written") {
         c.stack[0] = 0;
     }
-    let mut s = Spot { depth: 1, listed: 0, pos: 0, steps: 0, top: 0 };
+    let mut s = Spot { depth: 1, listed: 0, pos: 0, steps: 0, top: 0, barred: false };
     let allowed = allowed(fault, c.limit);
     let end = loop {
         if let Err(end) = step(&table, &mut c, &mut s, allowed) {
@@ -549,6 +635,11 @@ pub fn parse(fault: usize, mut c: Call) -> [u64; 7] {
     }
     let mut out = numbers(&table, end, &s, c.limit);
     let used = if end == 31 { offers::answer(&table, &mut c, &s, &mut out) } else { 0 };
-    offers::leave(&table, &mut c, used, out[0]);
+    if !(s.barred && table.is("closed: second area left at a closed terminal")) {
+        offers::leave(&table, &mut c, used, out[0]);
+    }
+    if end == 31 {
+        closed::answer(&table, &mut c, &s, &mut out);
+    }
     out
 }

@@ -1,5 +1,6 @@
 //! The parser of the paper, plainly: refusals 21 to 27, 44 and 45, then the machine,
-//! and behind its 31 a fresh reading for each terminal.
+//! and behind its 31 a fresh reading for each terminal. `parse` is the publisher's,
+//! `parse_restricted` the choir's, with a word of closed terminals and refusal 50.
 
 /// What a parse answers; `out` has the order of the C boundary.
 #[derive(Clone, Copy, Debug, Default, PartialEq, Eq)]
@@ -98,6 +99,8 @@ struct Reading<'a> {
     stack: &'a mut [u16],
     /// A fresh reading has none.
     list: Option<&'a mut [u16]>,
+    /// The word of closed terminals; 0 for a publisher and in every fresh reading.
+    closed: u64,
     step_limit: u64,
     steps: u64,
     depth: usize,
@@ -109,17 +112,34 @@ impl<'a> Reading<'a> {
     fn new(
         table: &'a Table<'a>,
         input: &'a [u8],
+        closed: u64,
         stack: &'a mut [u16],
         list: Option<&'a mut [u16]>,
         step_limit: u64,
     ) -> Reading<'a> {
         stack[0] = 0;
         let (steps, depth, listed, position) = (0, 1, 0, 0);
-        Reading { table, input, stack, list, step_limit, steps, depth, listed, position }
+        Reading { table, input, stack, list, closed, step_limit, steps, depth, listed, position }
+    }
+
+    /// Reads to the end.
+    fn run(&mut self) -> Outcome {
+        let number = loop {
+            if let Some(end) = self.step() {
+                break end;
+            }
+        };
+        let (depth, listed) = (self.depth as u64, self.listed as u64);
+        let position = if number == 31 { self.position as u64 } else { 0 };
+        Outcome { number, steps: self.steps, depth, listed, position, ..Outcome::default() }
     }
 
     /// Makes a step, or gives the end that comes before it; 0 with the acceptance.
     fn step(&mut self) -> Option<u64> {
+        // A closed next terminal is wrong before all else; at the end there is none.
+        if self.input.get(self.position).is_some_and(|&m| has(self.closed, m as usize)) {
+            return Some(31);
+        }
         let next = self.input.get(self.position).map_or(0, |&m| m as usize);
         let cell = self.table.rows[self.stack[self.depth - 1] as usize][next];
         if cell == 0 {
@@ -177,6 +197,10 @@ impl<'a> Reading<'a> {
     }
 }
 
+fn has(word: u64, terminal: usize) -> bool {
+    word >> terminal & 1 == 1
+}
+
 /// How a fresh reading ends over the terminals before the position and one more: with
 /// 0 once that is shifted. For the end marker it reads those before alone, and 0 is
 /// the acceptance.
@@ -191,7 +215,7 @@ fn fresh(
     if terminal != 0 {
         line.push(terminal as u8);
     }
-    let mut reading = Reading::new(table, &line, second, None, step_limit);
+    let mut reading = Reading::new(table, &line, 0, second, None, step_limit);
     loop {
         if reading.position > before.len() {
             return 0;
@@ -203,10 +227,16 @@ fn fresh(
 }
 
 /// The terminals that can follow those before the position, one fresh reading for
-/// each; none where a reading stops on 32, 33 or 35.
-fn offer(table: &Table, before: &[u8], second: &mut [u16], step_limit: u64) -> Option<u64> {
+/// each that is not closed; none where a reading stops on 32, 33 or 35.
+fn offer(
+    table: &Table,
+    before: &[u8],
+    closed: u64,
+    second: &mut [u16],
+    step_limit: u64,
+) -> Option<u64> {
     let mut offered = 0;
-    for terminal in 0..table.terminals {
+    for terminal in (0..table.terminals).filter(|&terminal| !has(closed, terminal)) {
         match fresh(table, before, terminal, second, step_limit) {
             0 => offered |= 1 << terminal,
             31 => {}
@@ -230,10 +260,29 @@ fn lent(terminals: usize, input: &[u8], stack: &[u16], second: &[u16]) -> Option
     (second.len() < stack.len()).then_some(45)
 }
 
-/// Reads the input with the table.
+/// Refusal 50: bit 0, or a bit from T on.
+fn bad_closed(terminals: usize, closed: u64) -> Option<u64> {
+    let bad = |m: usize| has(closed, m) && (m == 0 || m >= terminals);
+    (0..64).any(bad).then_some(50)
+}
+
+/// Reads the input with the table, as a publisher.
 pub fn parse(
     table: &[u16],
     input: &[u8],
+    stack: &mut [u16],
+    list: &mut [u16],
+    second: &mut [u16],
+    step_limit: u64,
+) -> Outcome {
+    parse_restricted(table, input, 0, stack, list, second, step_limit)
+}
+
+/// Reads the input with the table, as a choir, to which some terminals are closed.
+pub fn parse_restricted(
+    table: &[u16],
+    input: &[u8],
+    closed: u64,
     stack: &mut [u16],
     list: &mut [u16],
     second: &mut [u16],
@@ -244,21 +293,13 @@ pub fn parse(
         Ok(table) => table,
         Err(number) => return refused(number),
     };
-    if let Some(number) = lent(table.terminals, input, stack, second) {
+    let lent = lent(table.terminals, input, stack, second);
+    if let Some(number) = lent.or(bad_closed(table.terminals, closed)) {
         return refused(number);
     }
-    let mut reading = Reading::new(&table, input, stack, Some(list), step_limit);
-    let number = loop {
-        if let Some(end) = reading.step() {
-            break end;
-        }
-    };
-    let Reading { steps, depth, listed, position, .. } = reading;
-    let (depth, listed) = (depth as u64, listed as u64);
-    let mut end = Outcome { number, steps, depth, listed, ..Outcome::default() };
-    if number == 31 {
-        end.position = position as u64;
-        match offer(&table, &input[..position], second, step_limit) {
+    let mut end = Reading::new(&table, input, closed, stack, Some(list), step_limit).run();
+    if end.number == 31 {
+        match offer(&table, &input[..end.position as usize], closed, second, step_limit) {
             Some(offered) => {
                 end.expected = offered;
                 end.expected_count = u64::from(offered.count_ones());
@@ -330,6 +371,63 @@ mod tests {
         let table = [3, 3, 1, 1, 3, 3, 0, 1, 3, 0, 1, 0, 2, 0, 0, 1024, 0, 4096, 0, 0, 0];
         assert_eq!(fresh_readings(&table, &[1, 1], [9, 9], 99), [46, 1, 2, 0, 1, 0, 0]);
         assert_eq!(fresh_readings(&table, &[2], [9, 9], 99), [31, 0, 1, 0, 0, 2, 1]);
+    }
+
+    /// The seven numbers of a choir's reading by A's table.
+    fn choir(input: &[u8], closed: u64, stack: usize, limit: u64) -> [u64; 7] {
+        let (mut stack, mut list, mut second) = (vec![7; stack], vec![7; 9], vec![7; stack]);
+        let out =
+            parse_restricted(&A, input, closed, &mut stack, &mut list, &mut second, limit).out();
+        let old = if out[2] == 0 { 7 } else { 0 };
+        assert!(second.iter().all(|&place| place == old));
+        assert!(list[out[3] as usize..].iter().all(|&place| place == 7));
+        out
+    }
+
+    #[test]
+    fn closed_terminals() {
+        // No reduction under a closed terminal; 0 is always open; the set may be empty.
+        assert_eq!(choir(&[2, 1], 2, 9, 99), [31, 1, 2, 0, 1, 1, 1]);
+        assert_eq!(choir(&[], 4, 9, 99), [31, 0, 1, 0, 0, 0, 0]);
+        assert_eq!(choir(&[2, 1], 4, 9, 99), [31, 0, 1, 0, 0, 0, 0]);
+        assert_eq!(choir(&[2], 2, 9, 99), [0, 3, 2, 1, 0, 0, 0]);
+        assert_eq!(choir(&[2, 1], 0, 9, 99), [0, 5, 2, 2, 0, 0, 0]);
+        // Before 32 and 33; then 0 has no reading to its end, and 46 comes.
+        assert_eq!(choir(&[2, 1], 2, 9, 1), [46, 1, 2, 0, 1, 0, 0]);
+        assert_eq!(choir(&[2, 1], 2, 9, 3), [31, 1, 2, 0, 1, 1, 1]);
+        assert_eq!(choir(&[2], 4, 1, 0), [31, 0, 1, 0, 0, 0, 0]);
+        // A 46 that terminal 2 alone causes, and one of a terminal that is open.
+        assert_eq!(choir(&[], 2, 9, 0), [46, 0, 1, 0, 0, 0, 0]);
+        assert_eq!(choir(&[], 4, 9, 0), [31, 0, 1, 0, 0, 0, 0]);
+        // A wrong terminal before a closed one, and behind it.
+        assert_eq!(choir(&[2, 2, 1], 2, 9, 99), [31, 1, 2, 0, 1, 1, 1]);
+        assert_eq!(choir(&[2, 1, 2, 1], 4, 9, 99), [31, 0, 1, 0, 0, 0, 0]);
+    }
+
+    #[test]
+    fn bad_words() {
+        for word in [1, 8, 9, 3, 1 << 63, u64::MAX] {
+            assert_eq!(choir(&[2, 1], word, 9, 99)[0], 50);
+            assert_eq!(choir(&[3], word, 9, 99)[0], 26);
+            assert_eq!(choir(&[2, 1], word, 0, 99)[0], 27);
+        }
+        let (mut stack, mut list, mut second) = ([7; 9], [7; 9], [7; 8]);
+        let out = parse_restricted(&A, &[2, 1], 1, &mut stack, &mut list, &mut second, 99).out();
+        assert_eq!(out, [45, 0, 0, 0, 0, 0, 0]);
+        assert_eq!((stack, list, second), ([7; 9], [7; 9], [7; 8]));
+        // 64 terminals, of which 63 alone is shifted: only bit 0 is bad.
+        let mut table = vec![2, 64, 1, 1, 64, 1, 0, 63];
+        table.resize(8 + 2 * 65, 0);
+        table[8 + 63] = 1;
+        let read = |closed| {
+            let areas = (&mut [7; 9], &mut [7; 9], &mut [7; 9]);
+            parse_restricted(&table, &[63], closed, areas.0, areas.1, areas.2, 99).out()
+        };
+        assert_eq!(read(0), [31, 1, 2, 0, 1, 0, 0]);
+        assert_eq!(read(1 << 63), [31, 0, 1, 0, 0, 0, 0]);
+        assert_eq!(read(!1), [31, 0, 1, 0, 0, 0, 0]);
+        assert_eq!(read(1 << 62), [31, 1, 2, 0, 1, 0, 0]);
+        assert_eq!([read(1)[0], read(u64::MAX)[0]], [50; 2]);
     }
 
     /// Card A's table with other numbers at some places, read with a good input.

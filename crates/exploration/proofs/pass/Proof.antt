@@ -1,6 +1,7 @@
 use mathlib.Core.Path.{_∙_}
 use native.Mathlib.Omega.{arith}
 use lib.ListN.{length}
+use Rattle.exploration.specs.Phases.{on-line}
 use Rattle.exploration.proofs.Moves.{not-moved}
 use Rattle.exploration.proofs.Passes.{Passing, passing-start, pass-over, sort-asks, pass-stuck, pass-asks, pass-goes, pass-cut}
 use borrow.Author.Needs.{needs}
@@ -21,7 +22,7 @@ returns : tie.Need-returns Inv-loop μ-loop
 returns c = rw (c .enum-told .given .1) at (c .before .before .before .before .arrive .ensures)
 
 returns-2 : tie.Need-returns-2 Inv-loop μ-loop
-returns-2 c = rw (c .enum-told2 .given .1) at (c .before .before .before .before .arrive .ensures)
+returns-2 c = on-line (rw (c .enum-told2 .given .1) at (c .before .before .before .before .arrive .ensures))
 
 loop-holds : tie.Need-loop-holds Inv-loop μ-loop
 loop-holds c = passing-start _ (rw (c .before .s .given .1) at (c .before .before .before .before .before .arrive .ensures))

@@ -7,10 +7,10 @@ use Rattle.parser.proofs.advance.Statement.{statement}
 use Rattle.parser.proofs.advance.Tie as tie
 
 abbrev Inv-loop : tie.InvT-loop
-Inv-loop table cells input stack₀ list₀ z from stack list s = Going table input cells from z stack₀ list₀ stack list s
+Inv-loop table cells line barred stack₀ list₀ z from stack list s = Going table line barred cells from z stack₀ list₀ stack list s
 
 abbrev μ-loop : tie.MeasureT-loop
-μ-loop table cells input stack₀ list₀ z from stack list s = s .left
+μ-loop table cells line barred stack₀ list₀ z from stack list s = s .left
 
 loop-holds : tie.Need-loop-holds Inv-loop μ-loop
 loop-holds c = going-start (c .before .before .before .before .before .pre .2)
@@ -34,9 +34,9 @@ returns-2 c =
 step-requires : tie.Need-step-requires Inv-loop μ-loop
 step-requires c κs =
     let b6 = c .before .before .before .before .before .before in
-    let p = b6 .before .before .before .before .before .before .pre in
+    let b12 = b6 .before .before .before .before .before .before in
     let a = c .before .before .before .before .before .action .ensures in
-    steppable (b6 .loop .inv .held) (p .0) (a .0) (p .1) (a .1) (c .before .before .before .before .if1 .left) (c .before .before .if2 .left)
+    steppable (b6 .loop .inv .held) (b12 .pre .0) (b12 .args .barred) (a .0) (c .before .before .before .before .if1 .left) (b12 .pre .1) (a .1) (c .before .before .if2 .left)
 
 stopped-requires : tie.Need-stopped-requires Inv-loop μ-loop
 stopped-requires c κs =

@@ -6,7 +6,7 @@ use Rattle.parser.proofs.explore_from.Tie as tie
 explore-requires : tie.Need-explore-requires
 explore-requires c κs =
     let p = c .before .before .before .before .before .before .pre in
-    (p .0, p .1, p .2, omega (arith, c .before .if1 .taken), p .3 (c .before .if1 .taken))
+    (p .0, p .1, p .2, p .3, omega (arith, c .before .if1 .taken), p .4 (c .before .if1 .taken))
 
 returns : tie.Need-returns
 returns c = c .before .before .explore .ensures
@@ -16,7 +16,7 @@ explore-requires-2 c κs =
     let b3 = c .before .before .before in
     let p = b3 .before .before .before .before .before .before .before .pre in
     let k = b3 .begin .kept .0 in
-    (p .0, p .1, omega (arith, p .2, k), omega arith, rw k (b3 .begin .ensures _ _ (p .0)))
+    (p .0, p .1, p .2, omega (arith, p .3, k), omega arith, rw k (b3 .begin .ensures _ _ (p .0)))
 
 returns-2 : tie.Need-returns-2
 returns-2 c =

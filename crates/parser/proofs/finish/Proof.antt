@@ -11,7 +11,7 @@ answered-requires c κs = c .before .before .before .before .pre
 returns : tie.Need-returns
 returns c =
     let b6 = c .before .before .before .before .before .before in
-    (b6 .answered .ensures, c .before .before .clear .ensures ∙ ap (λ (n : ℕ). replicate n 0) (b6 .answered .kept .1 .1 .0))
+    (b6 .answered .ensures, c .before .before .clear .ensures ∙ ap (λ (n : ℕ). replicate n 0) (b6 .answered .kept .1 .1 .1 .0))
 
 pub finish-spec : {M : Type 1} → statement M
 finish-spec = tie.close (tie.spec answered-requires (λ c κs. search needs) (λ c. search needs) returns)

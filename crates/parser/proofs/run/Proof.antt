@@ -11,11 +11,11 @@ use Rattle.parser.proofs.run.Statement.{statement}
 use Rattle.parser.proofs.run.Tie as tie
 
 abbrev Inv-loop : tie.InvT-loop
-Inv-loop table input stack₀ list₀ second₀ step-limit z cells s₀ checkpoint₀ left₀ stack list second s checkpoint left =
-    Running table input cells step-limit z stack₀ list₀ second₀ stack list second s checkpoint left
+Inv-loop table line barred stack₀ list₀ second₀ step-limit z cells s₀ checkpoint₀ left₀ stack list second s checkpoint left =
+    Running table line barred cells step-limit z stack₀ list₀ second₀ stack list second s checkpoint left
 
 abbrev μ-loop : tie.MeasureT-loop
-μ-loop table input stack₀ list₀ second₀ step-limit z cells s₀ checkpoint₀ left₀ stack list second s checkpoint left = left
+μ-loop table line barred stack₀ list₀ second₀ step-limit z cells s₀ checkpoint₀ left₀ stack list second s checkpoint left = left
 
 shape-of-requires : tie.Need-shape-of-requires Inv-loop μ-loop
 shape-of-requires c κs = c .before .before .before .before .before .pre .0 .table .long
@@ -45,12 +45,12 @@ same-length : tie.Need-same-length Inv-loop μ-loop
 same-length c =
     let b7 = c .before .before .before .before .before .before .before in
     let b12 = b7 .before .before .before .before .before in
-    b7 .advance .kept .1 .1 .1 .0 ∙ b12 .loop .inv .stacks ∙ simp length-set
+    b7 .advance .kept .1 .1 .1 .1 .0 ∙ b12 .loop .inv .stacks ∙ simp length-set
 
 same-length-2 : tie.Need-same-length-2 Inv-loop μ-loop
 same-length-2 c =
     let b7 = c .before .before .before .before .before .before .before in
-    b7 .advance .kept .1 .1 .1 .1 .0 ∙ b7 .before .before .before .before .before .loop .inv .lists
+    b7 .advance .kept .1 .1 .1 .1 .1 .0 ∙ b7 .before .before .before .before .before .loop .inv .lists
 
 returns : tie.Need-returns Inv-loop μ-loop
 unfolding start
@@ -70,18 +70,21 @@ count-requires c κs =
 
 same-length-4 : tie.Need-same-length-4 Inv-loop μ-loop
 same-length-4 c =
-    let b9 = c .before .before .before .before .before .before .before .before .before in
-    b9 .advance .kept .1 .1 .1 .0 ∙ b9 .before .before .before .before .before .loop .inv .stacks ∙ simp length-set
+    let m4 = c .before .before .before .before in
+    let b9 = m4 .before .before .before .before .before in
+    b9 .advance .kept .1 .1 .1 .1 .0 ∙ b9 .before .before .before .before .before .loop .inv .stacks ∙ simp length-set
 
 same-length-5 : tie.Need-same-length-5 Inv-loop μ-loop
 same-length-5 c =
-    let b9 = c .before .before .before .before .before .before .before .before .before in
-    b9 .advance .kept .1 .1 .1 .1 .0 ∙ b9 .before .before .before .before .before .loop .inv .lists
+    let m4 = c .before .before .before .before in
+    let b9 = m4 .before .before .before .before .before in
+    b9 .advance .kept .1 .1 .1 .1 .1 .0 ∙ b9 .before .before .before .before .before .loop .inv .lists
 
 returns-2 : tie.Need-returns-2 Inv-loop μ-loop
 unfolding start
 returns-2 c =
-    let b9 = c .before .before .before .before .before .before .before .before .before in
+    let m4 = c .before .before .before .before in
+    let b9 = m4 .before .before .before .before .before in
     let b13 = b9 .before .before .before .before in
     let g = b13 .before .loop .inv in
     let f = b13 .portion .ensures .0 in
@@ -90,12 +93,13 @@ returns-2 c =
 
 copy-requires : tie.Need-copy-requires Inv-loop μ-loop
 copy-requires c κs =
-    let b10 = c .before .before .before .before .before .before .before .before .before .before in
+    let m5 = c .before .before .before .before .before in
+    let b10 = m5 .before .before .before .before .before in
     let b15 = b10 .before .before .before .before .before in
     let p = pausing (rw (c .before .before .before .before .n2 .given .1) at (b10 .advance .ensures)) in
     let b20 = b15 .before .before .before .before .before in
     let q = b20 .before .before .before .before .before in
-    let e = b10 .advance .kept .1 .1 .1 .0 ∙ b15 .loop .inv .stacks ∙ length-set (now (q .args .stack)) 0 0 in
+    let e = b10 .advance .kept .1 .1 .1 .1 .0 ∙ b15 .loop .inv .stacks ∙ length-set (now (q .args .stack)) 0 0 in
     (p .held .within, omega (arith, p .held .within, e, q .pre .2, b15 .loop .inv .seconds))
 
 loop-less : tie.Need-loop-less Inv-loop μ-loop
@@ -119,7 +123,7 @@ loop-again c =
     let k = c .before .before .before .copy in
     rw (c .checkpoint-at .ensures)
     (running-on g _ (b18 .portion .ensures .0) _ _ _ p (now (q .args .stack)) refl (q .pre .0) (length-set (now (q .args .stack)) 0 0) (q .pre .2)
-    (b14 .advance .kept .1 .1 .1 .0 ∙ g .stacks) (k .kept .1 .0 ∙ g .seconds) (k .ensures) (b14 .advance .kept .1 .1 .1 .1 .0 ∙ g .lists))
+    (b14 .advance .kept .1 .1 .1 .1 .0 ∙ g .stacks) (k .kept .1 .0 ∙ g .seconds) (k .ensures) (b14 .advance .kept .1 .1 .1 .1 .1 .0 ∙ g .lists))
 
 pub run-spec : {M : Type 1} → statement M
 run-spec =
@@ -145,7 +149,7 @@ run-spec =
     count-requires
     same-length-4
     same-length-5
-    (λ c. (let b9 = c .before .before .before .before .before .before .before .before .before in b9 .before .before .before .before .before .loop .inv .seconds))
+    (λ c. (let m4 = c .before .before .before .before in let b9 = m4 .before .before .before .before .before in b9 .before .before .before .before .before .loop .inv .seconds))
     returns-2
     copy-requires
     (λ c κs. search needs)

@@ -44,10 +44,15 @@ returns-9 : tie.Need-returns-9
 unfolding covered
 returns-9 c = ap (λ (e : Refusal). padded (refusalNumber e ∷ [])) (sym (c .enum-told9 .given .1))
 
+returns-10 : tie.Need-returns-10
+unfolding covered
+returns-10 c = ap (λ (e : Refusal). padded (refusalNumber e ∷ [])) (sym (c .enum-told10 .given .1))
+
 pub refused-spec : {M : Type 1} → statement M
 refused-spec =
     tie.close
     (tie.spec
+    (λ c. search needs)
     (λ c. search needs)
     (λ c. search needs)
     (λ c. search needs)
@@ -65,4 +70,5 @@ refused-spec =
     returns-6
     returns-7
     returns-8
-    returns-9)
+    returns-9
+    returns-10)

@@ -1,13 +1,10 @@
-use mathlib.Core.Path.{ap, _∙_}
-use Rattle.parser_c.specs.Out.{padded}
 use borrow.Author.Needs.{needs}
+use Rattle.machine.proofs.RestrictedLaws.{restricted-none}
 use Rattle.parser_c.proofs.sidumza_parse.Statement.{statement}
 use Rattle.parser_c.proofs.sidumza_parse.Tie as tie
 
 returns : tie.Need-returns
-returns c =
-    let p = c .before .before .before .before .before .before .before .parse .ensures in
-    record { report = c .seven .ensures ∙ ap padded (p .answer); stack = p .stack; list = p .list; second = p .second }
+returns c = rw (restricted-none _ _ _ _ _ _) at (c .before .before .before .before .before .before .sidumza-parse-restricted .ensures)
 
 pub sidumza-parse-spec : {M : Type 1} → statement M
-sidumza-parse-spec = tie.close (tie.spec (λ c κs. search needs) (λ c κs. search needs) (λ c. search needs) (λ c. search needs) (λ c. search needs) returns)
+sidumza-parse-spec = tie.close (tie.spec (λ c κs. search needs) (λ c. search needs) (λ c. search needs) (λ c. search needs) returns)

@@ -1,22 +1,13 @@
--- `recognize` meets its contract: a table is read with, any other answer is handed on.
-use mathlib.Core.List.{[], _∷_}
-use types.Run.{miss}
+-- `recognize` meets its contract: no terminal is closed.
 use borrow.Author.Needs.{needs}
-use Rattle.recognizer.proofs.Across.{refuses, reads}
+use Rattle.recognizer.proofs.Across.{none-closed}
 use Rattle.recognizer.proofs.recognize.Statement.{statement}
 use Rattle.recognizer.proofs.recognize.Tie as tie
 
 returns : tie.Need-returns
 returns c =
     let b6 = c .before .before .before .before .before .before in
-    let b11 = b6 .before .before .before .before .before in
-    let b19 = b11 .before .before .before .before .before .before .before .before in
-    reads _ _ _ _ _ _ _ _ _ (b19 .generate .ensures) (b11 .enum-told .given .1) (b6 .parse .ensures)
-
-returns-2 : tie.Need-returns-2
-returns-2 c =
-    let b7 = c .before .before .before .before .before .before .before in
-    refuses _ _ _ _ _ _ _ _ _ (b7 .generate .ensures) (λ h. (let k = rw h at (c .match .keys2) in miss (1 ∷ 2 ∷ 3 ∷ 4 ∷ 5 ∷ 6 ∷ 7 ∷ []) 0 tt k))
+    none-closed _ _ _ _ _ _ _ _ _ _ (b6 .before .before .before .before .before .before .recognize-restricted .ensures)
 
 pub recognize-spec : {M : Type 1} → statement M
 recognize-spec =
@@ -24,15 +15,9 @@ recognize-spec =
     (tie.spec
     (λ c κs. search needs)
     (λ c. search needs)
-    (λ c κs. search needs)
     (λ c. search needs)
     (λ c. search needs)
     (λ c. search needs)
     (λ c. search needs)
     (λ c. search needs)
-    (λ c. search needs)
-    returns
-    (λ c. search needs)
-    (λ c. search needs)
-    (λ c. search needs)
-    returns-2)
+    returns)

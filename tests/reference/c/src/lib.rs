@@ -61,6 +61,37 @@ pub unsafe extern "C" fn sidumza_parse(
     from_raw_parts_mut(out, 7).copy_from_slice(&outcome.out());
 }
 
+/// # Safety
+/// As for `sidumza_generate`.
+#[no_mangle]
+#[allow(clippy::too_many_arguments)]
+pub unsafe extern "C" fn sidumza_parse_restricted(
+    table: *const u16,
+    table_len: usize,
+    input: *const u8,
+    input_len: usize,
+    closed: u64,
+    stack: *mut u16,
+    stack_len: usize,
+    list: *mut u16,
+    list_len: usize,
+    second: *mut u16,
+    second_len: usize,
+    step_limit: u64,
+    out: *mut u64,
+) {
+    let outcome = reference::parser::parse_restricted(
+        slice(table, table_len),
+        slice(input, input_len),
+        closed,
+        slice_mut(stack, stack_len),
+        slice_mut(list, list_len),
+        slice_mut(second, second_len),
+        step_limit,
+    );
+    from_raw_parts_mut(out, 7).copy_from_slice(&outcome.out());
+}
+
 #[no_mangle]
 pub extern "C" fn sidumza_lowest(expected: u64) -> u32 {
     (0..64).find(|m| expected >> m & 1 == 1).unwrap_or(64)
