@@ -1,0 +1,17 @@
+-- "the length of the shortest line that name derives, from 0, with 65,535 for that much or more and for a name that derives no line"
+use Prim.Native.Nat.{ℕ, _≤_, _<_}
+use mathlib.Core.Path.{_≡_}
+use lib.ListN.{length}
+use Rattle.grammar.specs.Grammar.{Grammar}
+use Rattle.grammar.specs.Useful.{Productive}
+
+-- what stands for that much or more, and for none
+abbrev pub lengthCap : ℕ
+lengthCap = 65535
+
+module _ (g : Grammar) where
+  -- n is that length of x: below the cap x derives a string of n terminals, and none that it derives is shorter
+  pub record ShortestLength (x n : ℕ) : Type 0 where
+    pub most : n ≤ lengthCap
+    pub some : n < lengthCap → (line : Productive g x) × (length (line .made) ≡ n)
+    pub least : (line : Productive g x) → n ≤ length (line .made)
