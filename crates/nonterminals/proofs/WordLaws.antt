@@ -26,30 +26,30 @@ within-le a b h = omega (arith, or-add-and a b, and-le-r a b, bits-eq (bitOr a b
 or-join : (a b d : ℕ) → bitOr a (bitOr b d) ≡ bitOr (bitOr a b) d
 or-join a b d = bits-eq _ _ (λ m. sym (simp (bit-or, or-assoc)))
 
-module _ (c : List ℕ) (t : ℕ) where
-  pub word-terminal : (x : ℕ) → x < terminals c → wordOf c t x ≡ t
+module _ (c : List ℕ) where
+  pub word-terminal : (x : ℕ) → x < terminals c → wordOf c x ≡ 0
   unfolding wordOf
   word-terminal x h = rw (lt-ltb x (terminals c) h)
 
-  pub word-nonterminal : (x : ℕ) → terminals c ≤ x → wordOf c t x ≡ 2 ^ (x - terminals c)
+  pub word-nonterminal : (x : ℕ) → terminals c ≤ x → wordOf c x ≡ 2 ^ (x - terminals c)
   unfolding wordOf
   word-nonterminal x h = rw (le-ltb x (terminals c) h)
 
-  pub join-last : (l : List ℕ) (x : ℕ) → joinOf c t (l ++ x ∷ []) ≡ bitOr (joinOf c t l) (wordOf c t x)
+  pub join-last : (l : List ℕ) (x : ℕ) → joinOf c (l ++ x ∷ []) ≡ bitOr (joinOf c l) (wordOf c x)
   unfolding joinOf
   join-last [] x = bits-eq _ _ (λ m. simp (bit-or, bit-zero, or-false))
-  join-last (y ∷ l) x = rw (join-last l x) (or-join (wordOf c t y) (joinOf c t l) (wordOf c t x))
+  join-last (y ∷ l) x = rw (join-last l x) (or-join (wordOf c y) (joinOf c l) (wordOf c x))
 
   module _ (w : ℕ) where
-    pub join-all : (l : List ℕ) → Within (joinOf c t l) w → All (λ x. Within (wordOf c t x) w) l
+    pub join-all : (l : List ℕ) → Within (joinOf c l) w → All (λ x. Within (wordOf c x) w) l
     unfolding joinOf
     join-all [] h = none
-    join-all (x ∷ l) h = more (λ m e. h m (or-has-l (wordOf c t x) (joinOf c t l) m e)) (join-all l (λ m e. h m (or-has-r (wordOf c t x) (joinOf c t l) m e)))
+    join-all (x ∷ l) h = more (λ m e. h m (or-has-l (wordOf c x) (joinOf c l) m e)) (join-all l (λ m e. h m (or-has-r (wordOf c x) (joinOf c l) m e)))
 
-    pub all-join : {l : List ℕ} → All (λ x. Within (wordOf c t x) w) l → Within (joinOf c t l) w
+    pub all-join : {l : List ℕ} → All (λ x. Within (wordOf c x) w) l → Within (joinOf c l) w
     unfolding joinOf
     all-join none m e = absurd (has-none m e)
-    all-join (more {a = x} {w = l} h a) m e = ⊎-elim (λ i. h m i) (λ i. all-join a m i) (has-or (wordOf c t x) (joinOf c t l) m e)
+    all-join (more {a = x} {w = l} h a) m e = ⊎-elim (λ i. h m i) (λ i. all-join a m i) (has-or (wordOf c x) (joinOf c l) m e)
 
 -- the symbols of a right side stand in the card
 module _ (c : List ℕ) (h : formFault c ≡ 0) (r d : ℕ) (k : r < productions c) (l : d < lengthOf c r) where

@@ -1,29 +1,28 @@
-// The nullable, the productive and the reachable nonterminals of a card, each set one number with
-// bit j for nonterminal T + j; and refusal 10.
+// The shortest lengths of a card's nonterminals; the productive and the reachable ones, each set one
+// number with bit j for nonterminal T + j; and refusal 10.
 ghost use mathlib.Core.Path.{_≡_};
-ghost use mathlib.Core.List.{[], _∷_};
-ghost use Prim.Native.Nat.{_+_, _<_};
-ghost use Rattle.grammar.specs.Grammar.{Derives};
-ghost use Rattle.grammar.specs.Card.{terminals, nonterminals, productions, leftOf, rightOf, startOf, grammarOf, formFault};
+ghost use Prim.Native.Nat.{_+_, _≤_, _<_};
+ghost use Rattle.grammar.specs.Card.{terminals, nonterminals, productions, symbols, leftOf, rightOf, symbolOf, startOf, grammarOf, formFault};
 ghost use Rattle.grammar.specs.Useful.{Productive, Reachable, LowestUseless};
+ghost use Rattle.grammar.specs.Shortest.{lengthCap};
 ghost use Rattle.nonterminals.specs.Sets.{NonterminalSet};
 ghost use Rattle.nonterminals.specs.Gathering.{wordOf, joinOf, needsOf, givesOf, Sound, Round, Settled};
+ghost use Rattle.nonterminals.specs.Lengths.{ShortestLengths, countOf, totalOf, Below, Reached, leftAt, Lessened, Passed};
 
 // What a set gathers.
 enum Kind {
-    Nullable,
     Productive,
     Reachable,
 }
 
-// The symbol x as a set: a nonterminal's bit, and t for a terminal.
-fn word(c: &[u16], t: u64, x: u16) -> u64
+// The symbol x as a set: a nonterminal's bit, and none for a terminal.
+fn word(c: &[u16], x: u16) -> u64
     requires { ⌜ (formFault (now c) ≡ 0) × (x < terminals (now c) + nonterminals (now c)) ⌝ }
-    ensures { λ v. ⌜ v ≡ wordOf (now (c .entry)) t x ⌝ }
+    ensures { λ v. ⌜ v ≡ wordOf (now (c .entry)) x ⌝ }
 {
     let first = card::terminals(c);
     if x < first {
-        return t;
+        return 0;
     }
     1 << (x - first)
 }
@@ -31,35 +30,33 @@ fn word(c: &[u16], t: u64, x: u16) -> u64
 // The left side of production r as a set.
 fn left(c: &[u16], r: u16) -> u64
     requires { ⌜ (formFault (now c) ≡ 0) × (r < productions (now c)) ⌝ }
-    ensures { λ v. ⌜ v ≡ wordOf (now (c .entry)) 0 (leftOf (now (c .entry)) r) ⌝ }
+    ensures { λ v. ⌜ v ≡ wordOf (now (c .entry)) (leftOf (now (c .entry)) r) ⌝ }
 {
-    word(c, 0, card::left(c, r))
+    word(c, card::left(c, r))
 }
 
 // The right side of production r, whose symbols begin at s, as a set.
-fn right(c: &[u16], t: u64, r: u16, s: u32) -> u64
+fn right(c: &[u16], r: u16, s: u32) -> u64
     requires { ⌜ (formFault (now c) ≡ 0) × (r < productions (now c)) × (s ≡ startOf (now c) r) ⌝ }
-    ensures { λ v. ⌜ v ≡ joinOf (now (c .entry)) t (rightOf (now (c .entry)) r) ⌝ }
+    ensures { λ v. ⌜ v ≡ joinOf (now (c .entry)) (rightOf (now (c .entry)) r) ⌝ }
 {
     let n = card::length(c, r);
     let mut v: u64 = 0;
     let mut d: u16 = 0;
     while d < n {
-        v |= word(c, t, card::symbol(c, s + card::wider(d)));
+        v |= word(c, card::symbol(c, s + card::wider(d)));
         d += 1;
     }
     v
 }
 
-// What must be in a set of the kind for production r to add to it. A terminal is never nullable:
-// it stands as bit 63, which no set has.
+// What must be in a set of the kind for production r to add to it.
 fn needs(c: &[u16], kind: Kind, r: u16, s: u32) -> u64
     requires { ⌜ (formFault (now c) ≡ 0) × (r < productions (now c)) × (s ≡ startOf (now c) r) ⌝ }
     ensures { λ v. ⌜ v ≡ needsOf (now (c .entry)) kind r ⌝ }
 {
     match kind {
-        Kind::Nullable => right(c, 1 << 63, r, s),
-        Kind::Productive => right(c, 0, r, s),
+        Kind::Productive => right(c, r, s),
         Kind::Reachable => left(c, r),
     }
 }
@@ -70,9 +67,8 @@ fn gives(c: &[u16], kind: Kind, r: u16, s: u32) -> u64
     ensures { λ v. ⌜ v ≡ givesOf (now (c .entry)) kind r ⌝ }
 {
     match kind {
-        Kind::Nullable => left(c, r),
         Kind::Productive => left(c, r),
-        Kind::Reachable => right(c, 0, r, s),
+        Kind::Reachable => right(c, r, s),
     }
 }
 
@@ -111,14 +107,6 @@ fn settled(c: &[u16], kind: Kind, w: u64) -> u64
     }
 }
 
-// The nonterminals that derive the empty string (the paper's "can be empty").
-pub fn nullable(c: &[u16]) -> u64
-    requires { ⌜ formFault (now c) ≡ 0 ⌝ }
-    ensures { λ v. ⌜ NonterminalSet (grammarOf (now (c .entry))) (λ x. Derives (grammarOf (now (c .entry))) (x ∷ []) []) v ⌝ }
-{
-    settled(c, Kind::Nullable, 0)
-}
-
 // The nonterminals that derive a string of terminals.
 fn productive(c: &[u16]) -> u64
     requires { ⌜ formFault (now c) ≡ 0 ⌝ }
@@ -143,4 +131,90 @@ pub fn useless(c: &[u16]) -> u16
 {
     let useful = productive(c) & reachable(c);
     card::terminals(c) + sets::lowest(!useful) as u16
+}
+
+// ---- the shortest lengths
+
+// What the k-th symbol of all right sides counts: 1 for a terminal, and for a nonterminal its length so far.
+fn count(c: &[u16], e: &[u16; 60], k: u32) -> u32
+    requires { ⌜ (formFault (now c) ≡ 0) × (k < symbols (now c)) × Reached (now c) (now e) ⌝ }
+    ensures { λ v. ⌜ (v ≡ countOf (now (c .entry)) (now (e .entry)) (symbolOf (now (c .entry)) k)) × (v ≤ lengthCap) ⌝ }
+{
+    let x = card::symbol(c, k);
+    let t = card::terminals(c);
+    if x < t {
+        return 1;
+    }
+    card::wider(e[card::wide(x - t)])
+}
+
+// The sum of the right side of production r, whose symbols begin at s, as far as it is below m.
+fn total(c: &[u16], e: &[u16; 60], r: u16, s: u32, m: u32) -> u32
+    requires { ⌜ (formFault (now c) ≡ 0) × (r < productions (now c)) × (s ≡ startOf (now c) r) × Reached (now c) (now e) × (m ≤ lengthCap) ⌝ }
+    ensures { λ v. ⌜ Below (totalOf (now (c .entry)) (now (e .entry)) (rightOf (now (c .entry)) r)) m v ⌝ }
+{
+    let n = card::length(c, r);
+    let mut v: u32 = 0;
+    let mut d: u16 = 0;
+    while d < n {
+        if m <= v {
+            return v;
+        }
+        v += count(c, e, s + card::wider(d));
+        d += 1;
+    }
+    v
+}
+
+// The number of the left side of production r.
+fn left_number(c: &[u16], r: u16) -> usize
+    requires { ⌜ (formFault (now c) ≡ 0) × (r < productions (now c)) ⌝ }
+    ensures { λ j. ⌜ (j ≡ leftAt (now (c .entry)) r) × (j < 60) ⌝ }
+{
+    card::wide(card::left(c, r) - card::terminals(c))
+}
+
+// Lessens the length of the left side of production r to the sum of its right side, where that is less. Says whether it was.
+fn lessen(c: &[u16], e: &mut [u16; 60], r: u16, s: u32) -> bool
+    requires { ⌜ (formFault (now c) ≡ 0) × (r < productions (now c)) × (s ≡ startOf (now c) r) × Reached (now c) (now e) ⌝ }
+    ensures { λ b. ⌜ Lessened (now (c .entry)) (now (e .entry)) r (now (e .exit)) b ⌝ }
+{
+    let j = left_number(c, r);
+    let m = card::wider(e[j]);
+    let v = total(c, e, r, s, m);
+    if v < m {
+        e[j] = v as u16;
+        return true;
+    }
+    false
+}
+
+// One production after the other. Says whether one lessened a length.
+fn pass(c: &[u16], e: &mut [u16; 60]) -> bool
+    requires { ⌜ (formFault (now c) ≡ 0) × Reached (now c) (now e) ⌝ }
+    ensures { λ b. ⌜ Passed (now (c .entry)) (now (e .entry)) (productions (now (c .entry))) (now (e .exit)) b ⌝ }
+{
+    let p = card::productions(c);
+    let mut b = false;
+    let mut s: u32 = 0;
+    let mut r: u16 = 0;
+    while r < p {
+        b = lessen(c, e, r, s) | b;
+        s += card::wider(card::length(c, r));
+        r += 1;
+    }
+    b
+}
+
+// For each nonterminal the length of the shortest string of terminals that it derives.
+pub fn shortest(c: &[u16]) -> [u16; 60]
+    requires { ⌜ formFault (now c) ≡ 0 ⌝ }
+    ensures { λ e. ⌜ ShortestLengths (grammarOf (now (c .entry))) e ⌝ }
+{
+    let mut e = [65535u16; 60];
+    loop {
+        if !pass(c, &mut e) {
+            return e;
+        }
+    }
 }
