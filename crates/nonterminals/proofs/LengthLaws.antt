@@ -19,7 +19,7 @@ use Rattle.grammar.specs.Shortest.{lengthCap}
 use Rattle.grammar.proofs.CardLaws.{well-formed, formed, right-is}
 use Rattle.grammar.proofs.Yield.{Yields, nil, terminal, nonterminal, append, yield-terminals}
 use Rattle.grammar.proofs.Derive.{derives-yields, yields-derives}
-use Rattle.nonterminals.specs.Lengths.{ShortestLengths, countOf, totalOf, Below, Reached, leftAt, Still, Lessened, kept, less, mass, Passed}
+use Rattle.nonterminals.specs.Lengths.{ShortestLengths, countOf, totalOf, Below, Reached, leftAt, Still, Lessened, kept, less, mass, LessenedAll}
 
 module _ (c e : List ℕ) where
   pub count-terminal : (x : ℕ) → x < terminals c → countOf c e x ≡ 1
@@ -177,18 +177,18 @@ reached-start c =
     }
 
 module _ (c e₀ : List ℕ) where
-  pub pass-start : Reached c e₀ → Passed c e₀ 0 e₀ false
-  pass-start s = record { reached = s; same = λ b. refl; still = λ b r h. absurd (omega arith); lower = λ b. absurd (true≢false (sym b)) }
+  pub lessen-start : Reached c e₀ → LessenedAll c e₀ 0 e₀ false
+  lessen-start s = record { reached = s; same = λ b. refl; still = λ b r h. absurd (omega arith); lower = λ b. absurd (true≢false (sym b)) }
 
-  pub pass-more : (fault : formFault c ≡ 0) (n : ℕ) → n < productions c → {e : List ℕ} {b : Bool} → Passed c e₀ n e b → {e′ : List ℕ} {a : Bool} → Lessened c e n e′ a → Passed c e₀ (n + 1) e′ (a || b)
-  pass-more fault n h {e} {b} p (kept still) =
+  pub lessen-more : (fault : formFault c ≡ 0) (n : ℕ) → n < productions c → {e : List ℕ} {b : Bool} → LessenedAll c e₀ n e b → {e′ : List ℕ} {a : Bool} → Lessened c e n e′ a → LessenedAll c e₀ (n + 1) e′ (a || b)
+  lessen-more fault n h {e} {b} p (kept still) =
       record {
         reached = p .reached;
         same = p .same;
         still = λ z r k. ⊎-elim (λ (i : r ≡ n). rw (i, ← p .same z) still) (λ (l : r < n). p .still z r l) (eq-or-lt-of-le (le-of-suc-le-suc (rw add-one at k)));
         lower = p .lower;
       }
-  pass-more fault n h {e} {b} p (less l) =
+  lessen-more fault n h {e} {b} p (less l) =
       record {
         reached = reached-less c e fault (p .reached) n h l;
         same = λ z. absurd (true≢false z);
@@ -201,5 +201,5 @@ module _ (c e₀ : List ℕ) where
       low false i = omega (arith, mass-set e (leftAt c n) (totalOf c e (rightOf c n)) l, ap mass (p .same i))
 
   -- none lessened a length
-  pub pass-end : formFault c ≡ 0 → {e : List ℕ} {b : Bool} → Passed c e₀ (productions c) e b → not b ≡ true → ShortestLengths (grammarOf c) e
-  pass-end fault {e} {b} p z = let o = not-true b z in all-shortest c e fault (λ r h. rw (p .same o) (p .still o r h)) (p .reached)
+  pub lessen-end : formFault c ≡ 0 → {e : List ℕ} {b : Bool} → LessenedAll c e₀ (productions c) e b → not b ≡ true → ShortestLengths (grammarOf c) e
+  lessen-end fault {e} {b} p z = let o = not-true b z in all-shortest c e fault (λ r h. rw (p .same o) (p .still o r h)) (p .reached)

@@ -54,7 +54,7 @@ mass [] = 0
 mass (x ∷ l) = x + mass l
 
 -- the first n productions made e of e₀; b says whether one lessened it
-pub record Passed (c e₀ : List ℕ) (n : ℕ) (e : List ℕ) (b : Bool) : Type 0 where
+pub record LessenedAll (c e₀ : List ℕ) (n : ℕ) (e : List ℕ) (b : Bool) : Type 0 where
   pub reached : Reached c e
   pub same : b ≡ false → e ≡ e₀
   pub still : b ≡ false → (r : ℕ) → r < n → Still c e₀ r

@@ -7,7 +7,7 @@ ghost use Rattle.grammar.specs.Useful.{Productive, Reachable, LowestUseless};
 ghost use Rattle.grammar.specs.Shortest.{lengthCap};
 ghost use Rattle.nonterminals.specs.Sets.{NonterminalSet};
 ghost use Rattle.nonterminals.specs.Gathering.{wordOf, joinOf, needsOf, givesOf, Sound, Round, Settled};
-ghost use Rattle.nonterminals.specs.Lengths.{ShortestLengths, countOf, totalOf, Below, Reached, leftAt, Lessened, Passed};
+ghost use Rattle.nonterminals.specs.Lengths.{ShortestLengths, countOf, totalOf, Below, Reached, leftAt, Lessened, LessenedAll};
 
 // What a set gathers.
 enum Kind {
@@ -190,9 +190,9 @@ fn lessen(c: &[u16], e: &mut [u16; 60], r: u16, s: u32) -> bool
 }
 
 // One production after the other. Says whether one lessened a length.
-fn pass(c: &[u16], e: &mut [u16; 60]) -> bool
+fn lessen_all(c: &[u16], e: &mut [u16; 60]) -> bool
     requires { ⌜ (formFault (now c) ≡ 0) × Reached (now c) (now e) ⌝ }
-    ensures { λ b. ⌜ Passed (now (c .entry)) (now (e .entry)) (productions (now (c .entry))) (now (e .exit)) b ⌝ }
+    ensures { λ b. ⌜ LessenedAll (now (c .entry)) (now (e .entry)) (productions (now (c .entry))) (now (e .exit)) b ⌝ }
 {
     let p = card::productions(c);
     let mut b = false;
@@ -213,7 +213,7 @@ pub fn shortest(c: &[u16]) -> [u16; 60]
 {
     let mut e = [65535u16; 60];
     loop {
-        if !pass(c, &mut e) {
+        if !lessen_all(c, &mut e) {
             return e;
         }
     }

@@ -1,6 +1,6 @@
 use borrow.Author.Tests.{not-false}
 use Rattle.nonterminals.specs.Lengths.{Reached, mass}
-use Rattle.nonterminals.proofs.LengthLaws.{reached-start, pass-end}
+use Rattle.nonterminals.proofs.LengthLaws.{reached-start, lessen-end}
 use Rattle.nonterminals.proofs.shortest.Statement.{statement}
 use Rattle.nonterminals.proofs.shortest.Tie as tie
 
@@ -13,18 +13,18 @@ abbrev μ-loop : tie.MeasureT-loop
 loop-holds : tie.Need-loop-holds Inv-loop μ-loop
 loop-holds c = reached-start _
 
-pass-requires : tie.Need-pass-requires Inv-loop μ-loop
-pass-requires c κs = (c .before .before .before .pre, c .before .loop .inv)
+lessen-all-requires : tie.Need-lessen-all-requires Inv-loop μ-loop
+lessen-all-requires c κs = (c .before .before .before .pre, c .before .loop .inv)
 
 returns : tie.Need-returns Inv-loop μ-loop
-returns c = pass-end _ _ (c .before .before .before .before .before .pre) (c .before .pass .ensures) (c .if1 .taken)
+returns c = lessen-end _ _ (c .before .before .before .before .before .pre) (c .before .lessen-all .ensures) (c .if1 .taken)
 
 loop-less : tie.Need-loop-less Inv-loop μ-loop
-loop-less c = c .before .pass .ensures .lower (not-false _ (c .if1 .left))
+loop-less c = c .before .lessen-all .ensures .lower (not-false _ (c .if1 .left))
 
 loop-again : tie.Need-loop-again Inv-loop μ-loop
-loop-again c = c .before .pass .ensures .reached
+loop-again c = c .before .lessen-all .ensures .reached
 
 pub shortest-spec : {M : Type 1} → statement M
 shortest-spec =
-    tie.close (tie.spec Inv-loop μ-loop loop-holds pass-requires returns loop-less loop-again)
+    tie.close (tie.spec Inv-loop μ-loop loop-holds lessen-all-requires returns loop-less loop-again)
