@@ -19,7 +19,8 @@ use Rattle.grammar.specs.Shortest.{lengthCap}
 use Rattle.grammar.proofs.CardLaws.{well-formed, formed, right-is}
 use Rattle.grammar.proofs.Yield.{Yields, nil, terminal, nonterminal, append, yield-terminals}
 use Rattle.grammar.proofs.Derive.{derives-yields, yields-derives}
-use Rattle.nonterminals.specs.Lengths.{ShortestLengths, countOf, totalOf, Below, Reached, leftAt, Still, Lessened, kept, less, mass, LessenedAll}
+use Rattle.nonterminals.specs.Lengths.{ShortestLengths}
+use Rattle.nonterminals.specs.Lessening.{countOf, totalOf, Below, Reached, leftAt, Still, Lessened, kept, less, mass, LessenedAll}
 
 module _ (c e : List ℕ) where
   pub count-terminal : (x : ℕ) → x < terminals c → countOf c e x ≡ 1

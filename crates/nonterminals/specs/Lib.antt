@@ -1,3 +1,4 @@
 pub mod Sets
 pub mod Gathering
 pub mod Lengths
+pub mod Lessening

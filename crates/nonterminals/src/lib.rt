@@ -7,7 +7,8 @@ ghost use Rattle.grammar.specs.Useful.{Productive, Reachable, LowestUseless};
 ghost use Rattle.grammar.specs.Shortest.{lengthCap};
 ghost use Rattle.nonterminals.specs.Sets.{NonterminalSet};
 ghost use Rattle.nonterminals.specs.Gathering.{wordOf, joinOf, needsOf, givesOf, Sound, Round, Settled};
-ghost use Rattle.nonterminals.specs.Lengths.{ShortestLengths, countOf, totalOf, Below, Reached, leftAt, Lessened, LessenedAll};
+ghost use Rattle.nonterminals.specs.Lengths.{ShortestLengths};
+ghost use Rattle.nonterminals.specs.Lessening.{countOf, totalOf, Below, Reached, leftAt, Lessened, LessenedAll};
 
 // What a set gathers.
 enum Kind {

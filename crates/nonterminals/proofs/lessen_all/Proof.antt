@@ -5,7 +5,7 @@ use native.Mathlib.Numerals.{add-one}
 use denote.Ref.{now}
 use borrow.Author.Needs.{needs}
 use Rattle.grammar.specs.Card.{productions, startOf}
-use Rattle.nonterminals.specs.Lengths.{LessenedAll}
+use Rattle.nonterminals.specs.Lessening.{LessenedAll}
 use Rattle.nonterminals.proofs.WordLaws.{ends-below}
 use Rattle.nonterminals.proofs.LengthLaws.{lessen-start, lessen-more}
 use Rattle.nonterminals.proofs.lessen_all.Statement.{statement}

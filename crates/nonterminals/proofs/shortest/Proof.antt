@@ -1,5 +1,5 @@
 use borrow.Author.Tests.{not-false}
-use Rattle.nonterminals.specs.Lengths.{Reached, mass}
+use Rattle.nonterminals.specs.Lessening.{Reached, mass}
 use Rattle.nonterminals.proofs.LengthLaws.{reached-start, lessen-end}
 use Rattle.nonterminals.proofs.shortest.Statement.{statement}
 use Rattle.nonterminals.proofs.shortest.Tie as tie

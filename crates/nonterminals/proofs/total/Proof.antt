@@ -6,7 +6,7 @@ use native.Mathlib.Numerals.{add-one}
 use denote.Ref.{now}
 use Rattle.grammar.specs.Card.{startOf}
 use Rattle.grammar.proofs.CardLaws.{well-formed, right-at}
-use Rattle.nonterminals.specs.Lengths.{totalOf}
+use Rattle.nonterminals.specs.Lessening.{totalOf}
 use Rattle.nonterminals.proofs.WordLaws.{right-place}
 use Rattle.nonterminals.proofs.LengthLaws.{total-last, partOf, part-far, part-whole}
 use Rattle.nonterminals.proofs.total.Statement.{statement}
