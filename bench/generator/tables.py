@@ -1,6 +1,6 @@
 #!/usr/bin/env python3
 """Instructions of whole calls for all stored cards, by family, and for chains of 60
-nonterminals, for whose shortest lengths most rounds are needed. tables.sh builds what
+nonterminals, whose shortest lengths take most rounds in one order of the productions. tables.sh builds what
 it needs and calls it.
 
     tables.py FOLDER ARCHIVE..
@@ -19,18 +19,20 @@ import bench  # noqa: E402
 T, N = 3, 60
 
 
-def chain(name, order, more):
-    """Each nonterminal is the next and `more` terminals; the last is one terminal."""
+def chain(name, more, own, order):
+    """Each nonterminal is the next and `more` terminals, or `own` terminals, if any; the last is one terminal."""
     found = bench.Card("chains", name)
-    sides = {T + j: [T + j + 1] + [1] * more for j in range(N - 1)} | {T + N - 1: [2]}
-    lefts = order(sorted(sides))
-    rights = [symbol for left in lefts for symbol in sides[left]]
-    found.numbers = [T, N, N, len(rights)] + lefts + [len(sides[left]) for left in lefts] + rights
+    rules = [(T + j, [T + j + 1] + [1] * more) for j in range(N - 1)] + [(T + N - 1, [2])]
+    rules = order(rules + [(T + j, [2] * own) for j in range(N) if own])
+    rights = [symbol for _, right in rules for symbol in right]
+    found.numbers = [T, N, len(rules), len(rights)] + [left for left, _ in rules] + [len(right) for _, right in rules] + rights
     return found
 
 
-CHAINS = [chain(f"{name}-{more}", order, more)
-          for name, order in [("next-behind", list), ("next-before", lambda lefts: lefts[::-1])] for more in [0, 3]]
+# An order in which one round finds all lengths, one in which a round finds one, and one between them.
+ORDERS = {"behind": list, "before": lambda rules: rules[::-1], "mixed": lambda rules: rules[::2] + rules[::-2]}
+CHAINS = [chain(f"next-{name}-{more}-{own}", more, own, order)
+          for name, order in ORDERS.items() for more, own in [(0, 0), (3, 0), (0, 7)]]
 
 
 def counted(program, cards):

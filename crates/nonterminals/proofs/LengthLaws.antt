@@ -1,17 +1,22 @@
 -- Lengths that no production lessens are the shortest ones, and each production that lessens one makes a line of that length.
-use mathlib.Core.Path.{_≡_, refl, sym, ap, _∙_}
-use mathlib.Core.Bool.{Bool, true, false, not, _||_, true≢false}
+use mathlib.Core.Path.{_≡_, refl, sym, ap, subst, _∙_}
+use mathlib.Core.Bool.{Bool, true, false, not, false≢true}
 use mathlib.Core.List.{List, [], _∷_, _++_, append-nil}
-use mathlib.Core.Logic.{⊎-elim}
-use Prim.Native.Nat.{ℕ, zero, suc, _+_, _-_, _≤_, _<_}
+use mathlib.Core.Logic.{_⊎_, inl, inr, ⊎-elim}
+use Prim.Native.Nat.{ℕ, zero, suc, _+_, _-_, _^_, _≤_, _<_}
 use native.Mathlib.Omega.{arith}
 use native.Mathlib.Nat.{eq-or-lt-of-le, le-of-suc-le-suc}
 use native.Mathlib.Numerals.{add-one}
 use lib.ListN.{length, getD, set, length-append, length-set, replicate, length-replicate, getD-replicate}
 use lib.Seq.{getD-set-same, getD-set-other}
-use borrow.Author.Tests.{lt-ltb, le-ltb, not-true}
+use lib.Dec.{eqb}
+use borrow.Author.Tests.{lt-ltb, le-ltb, eqb-true}
+use lib.Bits.{bitAnd, bitOr}
 use Rattle.sets.specs.Lists.{each}
-use Rattle.sets.proofs.HasLaws.{lt-or-ge, eq-or}
+use Rattle.sets.specs.Bit.{bit, Has, Within}
+use Rattle.sets.proofs.BitLaws.{bit-and}
+use Rattle.sets.proofs.TestLaws.{and-true}
+use Rattle.sets.proofs.HasLaws.{lt-or-ge, eq-or, has-none, one-has, has-or, or-has-l, or-has-r}
 use Rattle.grammar.specs.Grammar.{Symbols, Formed}
 use Rattle.grammar.specs.Card.{terminals, nonterminals, productions, leftOf, lengthOf, rightOf, symbolOf, startOf, grammarOf, formFault}
 use Rattle.grammar.specs.Useful.{Productive}
@@ -20,7 +25,9 @@ use Rattle.grammar.proofs.CardLaws.{well-formed, formed, right-is}
 use Rattle.grammar.proofs.Yield.{Yields, nil, terminal, nonterminal, append, yield-terminals}
 use Rattle.grammar.proofs.Derive.{derives-yields, yields-derives}
 use Rattle.nonterminals.specs.Lengths.{ShortestLengths}
-use Rattle.nonterminals.specs.Lessening.{countOf, totalOf, Below, Reached, leftAt, Still, Lessened, kept, less, mass, LessenedAll}
+use Rattle.nonterminals.specs.Gathering.{wordOf, joinOf}
+use Rattle.nonterminals.specs.Lessening.{countOf, totalOf, Below, Witnessed, leftNumber, Still, Lessened, kept, less, Due, DueBy, LessenedTo, mass, Lower, same, lower}
+use Rattle.nonterminals.proofs.WordLaws.{word-nonterminal}
 
 module _ (c e : List ℕ) where
   pub count-terminal : (x : ℕ) → x < terminals c → countOf c e x ≡ 1
@@ -63,11 +70,11 @@ module _ (c e : List ℕ) where
   -- ---- one production
 
   -- its sum, as far as it is below the length of its left side
-  module _ (r j m v : ℕ) (at : j ≡ leftAt c r) (is : m ≡ getD e j 0) (sum : Below (totalOf c e (rightOf c r)) m v) where
-    pub lessen-less : v < m → Lessened c e r (set e j v) true
+  module _ (r j m v : ℕ) (at : j ≡ leftNumber c r) (is : m ≡ getD e j 0) (sum : Below (totalOf c e (rightOf c r)) m v) where
+    pub lessen-less : v < m → Lessened c e r (set e j v) (2 ^ j)
     lessen-less h = rw (at, sum .value h) (less (omega (arith, rw at at is, sum .value h)))
 
-    pub lessen-kept : m ≤ v → Lessened c e r e false
+    pub lessen-kept : m ≤ v → Lessened c e r e 0
     lessen-kept h = kept (omega (arith, rw at at is, sum .far h))
 
 -- a number lessened in a list
@@ -91,7 +98,7 @@ module _ (c e : List ℕ) (fault : formFault c ≡ 0) where
     no-shorter (nonterminal {u = u} {v = v} r h x y) =
         omega (arith, no-shorter x, no-shorter y, still r h, count-nonterminal c e (leftOf c r) (f .left-nonterminal r h), length-append u v)
 
-    all-shortest : Reached c e → ShortestLengths (grammarOf c) e
+    all-shortest : Witnessed c e → ShortestLengths (grammarOf c) e
     unfolding totalOf
     all-shortest s j h =
         record {
@@ -105,7 +112,7 @@ module _ (c e : List ℕ) (fault : formFault c ≡ 0) where
 
   -- ---- and one of that length is derived
 
-  module _ (s : Reached c e) where
+  module _ (s : Witnessed c e) where
     -- a string of n terminals comes from l
     abbrev Makes : List ℕ → ℕ → Type 0
     Makes l n = (w : List ℕ) × (p : List ℕ) × Yields (grammarOf c) l p w × (length w ≡ n)
@@ -139,26 +146,26 @@ module _ (c e : List ℕ) (fault : formFault c ≡ 0) where
         (record { made = t .0; terminals = yield-terminals (grammarOf c) (t .2); derived = yields-derives (grammarOf c) (rw append-nil at (nonterminal r h (t .2) nil)) }, t .3)
 
     -- a length lessened to the sum of a production
-    module _ (r : ℕ) (h : r < productions c) (k : totalOf c e (rightOf c r) < getD e (leftAt c r) 0) where
+    module _ (r : ℕ) (h : r < productions c) (k : totalOf c e (rightOf c r) < getD e (leftNumber c r) 0) where
       abbrev sum : ℕ
       sum = totalOf c e (rightOf c r)
 
-      here : (j : ℕ) → j ≡ leftAt c r → getD (set e (leftAt c r) (totalOf c e (rightOf c r))) j 0 ≡ totalOf c e (rightOf c r)
-      here j i = rw i (getD-set-same e (leftAt c r) sum 0 (omega (arith, s .long, f .left-below r h, well-formed c fault .limits .nonterminals-to)))
+      here : (j : ℕ) → j ≡ leftNumber c r → getD (set e (leftNumber c r) (totalOf c e (rightOf c r))) j 0 ≡ totalOf c e (rightOf c r)
+      here j i = rw i (getD-set-same e (leftNumber c r) sum 0 (omega (arith, s .long, f .left-below r h, well-formed c fault .limits .nonterminals-to)))
 
-      other : (j : ℕ) → (j ≡ leftAt c r → ⊥) → getD (set e (leftAt c r) (totalOf c e (rightOf c r))) j 0 ≡ getD e j 0
-      other j i = getD-set-other e (leftAt c r) j sum 0 i
+      other : (j : ℕ) → (j ≡ leftNumber c r → ⊥) → getD (set e (leftNumber c r) (totalOf c e (rightOf c r))) j 0 ≡ getD e j 0
+      other j i = getD-set-other e (leftNumber c r) j sum 0 i
 
-      reached-less : Reached c (set e (leftAt c r) (totalOf c e (rightOf c r)))
-      reached-less =
+      witnessed-less : Witnessed c (set e (leftNumber c r) (totalOf c e (rightOf c r)))
+      witnessed-less =
           record {
-            long = length-set e (leftAt c r) sum ∙ s .long;
-            most = λ j. ⊎-elim (λ i. rw (here j i) (omega (arith, s .most (leftAt c r)))) (λ i. rw (other j i) (s .most j)) (eq-or j (leftAt c r));
+            long = length-set e (leftNumber c r) sum ∙ s .long;
+            most = λ j. ⊎-elim (λ i. rw (here j i) (omega (arith, s .most (leftNumber c r)))) (λ i. rw (other j i) (s .most j)) (eq-or j (leftNumber c r));
             lines = λ j b l.
                 ⊎-elim
-                (λ (i : j ≡ leftAt c r). let o : terminals c + j ≡ leftOf c r = omega (arith, f .left-nonterminal r h) in rw (o, here j i) (line-of r h (omega (arith, s .most (leftAt c r)))))
+                (λ (i : j ≡ leftNumber c r). let o : terminals c + j ≡ leftOf c r = omega (arith, f .left-nonterminal r h) in rw (o, here j i) (line-of r h (omega (arith, s .most (leftNumber c r)))))
                 (λ i. rw (other j i) (s .lines j b (rw (other j i) at l)))
-                (eq-or j (leftAt c r));
+                (eq-or j (leftNumber c r));
           }
 
 -- ---- one production after the other
@@ -169,38 +176,150 @@ at-most (suc n) zero a = omega arith
 at-most (suc n) (suc j) a = at-most n j a
 
 -- no line is known
-pub reached-start : (c : List ℕ) → Reached c (replicate 60 lengthCap)
-reached-start c =
+pub no-witness : (c : List ℕ) → Witnessed c (replicate 60 lengthCap)
+no-witness c =
     record {
       long = length-replicate 60 lengthCap;
       most = λ j. at-most 60 j lengthCap;
       lines = λ j h k. absurd (omega (arith, getD-replicate 60 j lengthCap 0 h));
     }
 
-module _ (c e₀ : List ℕ) where
-  pub lessen-start : Reached c e₀ → LessenedAll c e₀ 0 e₀ false
-  lessen-start s = record { reached = s; same = λ b. refl; still = λ b r h. absurd (omega arith); lower = λ b. absurd (true≢false (sym b)) }
+-- ---- a round
 
-  pub lessen-more : (fault : formFault c ≡ 0) (n : ℕ) → n < productions c → {e : List ℕ} {b : Bool} → LessenedAll c e₀ n e b → {e′ : List ℕ} {a : Bool} → Lessened c e n e′ a → LessenedAll c e₀ (n + 1) e′ (a || b)
-  lessen-more fault n h {e} {b} p (kept still) =
-      record {
-        reached = p .reached;
-        same = p .same;
-        still = λ z r k. ⊎-elim (λ (i : r ≡ n). rw (i, ← p .same z) still) (λ (l : r < n). p .still z r l) (eq-or-lt-of-le (le-of-suc-le-suc (rw add-one at k)));
-        lower = p .lower;
-      }
-  lessen-more fault n h {e} {b} p (less l) =
-      record {
-        reached = reached-less c e fault (p .reached) n h l;
-        same = λ z. absurd (true≢false z);
-        still = λ z. absurd (true≢false z);
-        lower = λ z. low b refl;
-      }
-    where
-      low : (b′ : Bool) → b ≡ b′ → mass (set e (leftAt c n) (totalOf c e (rightOf c n))) < mass e₀
-      low true i = omega (arith, mass-set e (leftAt c n) (totalOf c e (rightOf c n)) l, p .lower i)
-      low false i = omega (arith, mass-set e (leftAt c n) (totalOf c e (rightOf c n)) l, ap mass (p .same i))
+due-more : (c : List ℕ) {w v r : ℕ} → Within w v → Due c w r → Due c v r
+due-more c i d = record { number = d .number; right = d .right; lessened = i (d .number) (d .lessened) }
 
-  -- none lessened a length
-  pub lessen-end : formFault c ≡ 0 → {e : List ℕ} {b : Bool} → LessenedAll c e₀ (productions c) e b → not b ≡ true → ShortestLengths (grammarOf c) e
-  lessen-end fault {e} {b} p z = let o = not-true b z in all-shortest c e fault (λ r h. rw (p .same o) (p .still o r h)) (p .reached)
+-- every production is due in the first round
+pub first-due : (c : List ℕ) → DueBy c (replicate 60 lengthCap) (2 ^ 63)
+first-due c =
+    record {
+      witnessed = no-witness c;
+      still = λ r h. inr (record { number = 63; right = or-has-r (joinOf c (rightOf c r)) (2 ^ 63) 63 (one-has 63); lessened = one-has 63 });
+    }
+
+-- a word of the right side and bit 63 tell a production that is due
+pub due-told : (c : List ℕ) (w r x : ℕ) → x ≡ joinOf c (rightOf c r) → Due c w r → not (eqb (bitAnd (bitOr x (2 ^ 63)) w) 0) ≡ true
+due-told c w r x e d = go (eqb (bitAnd (bitOr x (2 ^ 63)) w) 0) refl
+  where
+    go : (b : Bool) → eqb (bitAnd (bitOr x (2 ^ 63)) w) 0 ≡ b → not b ≡ true
+    go false i = refl
+    go true i =
+        absurd
+        (has-none (d .number)
+        (subst (λ (n : ℕ). Has n (d .number)) (eqb-true (bitAnd (bitOr x (2 ^ 63)) w) 0 i)
+        (bit-and (bitOr x (2 ^ 63)) w (d .number) ∙ and-true (subst (λ (n : ℕ). Has (bitOr n (2 ^ 63)) (d .number)) (sym e) (d .right)) (d .lessened))))
+
+module _ (c e : List ℕ) (fault : formFault c ≡ 0) (n : ℕ) (h : n < productions c) where
+  abbrev j : ℕ
+  j = leftNumber c n
+
+  abbrev e′ : List ℕ
+  e′ = set e (leftNumber c n) (totalOf c e (rightOf c n))
+
+  -- a string without the left side has the sum that it had
+  count-same : (x : ℕ) → (Has (wordOf c x) (leftNumber c n) → ⊥) → countOf c (set e (leftNumber c n) (totalOf c e (rightOf c n))) x ≡ countOf c e x
+  count-same x i =
+      ⊎-elim
+      (λ (m : x < terminals c). count-terminal c e′ x m ∙ sym (count-terminal c e x m))
+      (λ (m : terminals c ≤ x).
+      count-nonterminal c e′ x m
+      ∙ getD-set-other e j (x - terminals c) (totalOf c e (rightOf c n)) 0 (λ z. i (rw (word-nonterminal c x m, z) (one-has j)))
+      ∙ sym (count-nonterminal c e x m))
+      (lt-or-ge x (terminals c))
+
+  total-same : (l : List ℕ) → (Has (joinOf c l) (leftNumber c n) → ⊥) → totalOf c (set e (leftNumber c n) (totalOf c e (rightOf c n))) l ≡ totalOf c e l
+  unfolding totalOf joinOf
+  total-same [] i = refl
+  total-same (x ∷ l) i =
+      omega (arith, count-same x (λ z. i (or-has-l (wordOf c x) (joinOf c l) j z)), total-same l (λ z. i (or-has-r (wordOf c x) (joinOf c l) j z)))
+
+  module _ (s : Witnessed c e) (k : totalOf c e (rightOf c n) < getD e (leftNumber c n) 0) where
+    -- the length of the left side of r is no more than it was, and for the production itself the sum
+    lower-at : (r : ℕ) → (r ≡ n) ⊎ Still c e r → getD (set e (leftNumber c n) (totalOf c e (rightOf c n))) (leftNumber c r) 0 ≤ totalOf c e (rightOf c r)
+    lower-at r (inl i) = rw i (omega (arith, here c e fault s n h k (leftNumber c n) refl))
+    lower-at r (inr t) =
+        ⊎-elim
+        (λ (i : leftNumber c r ≡ leftNumber c n). let q : getD e (leftNumber c r) 0 ≡ getD e (leftNumber c n) 0 = ap (λ (m : ℕ). getD e m 0) i in omega (arith, here c e fault s n h k (leftNumber c r) i))
+        (λ i. omega (arith, other c e fault s n h k (leftNumber c r) i))
+        (eq-or (leftNumber c r) (leftNumber c n))
+
+    -- after production n has lessened e
+    after : (w r : ℕ) → ((r ≡ n) ⊎ Still c e r) ⊎ Due c w r → Still c (set e (leftNumber c n) (totalOf c e (rightOf c n))) r ⊎ Due c (bitOr w (2 ^ leftNumber c n)) r
+    after w r (inr d) = inr (due-more c (λ m i. or-has-l w (2 ^ j) m i) d)
+    after w r (inl t) = go (bit (joinOf c (rightOf c r)) (leftNumber c n)) refl
+      where
+        go : (b : Bool) → bit (joinOf c (rightOf c r)) (leftNumber c n) ≡ b → Still c (set e (leftNumber c n) (totalOf c e (rightOf c n))) r ⊎ Due c (bitOr w (2 ^ leftNumber c n)) r
+        go true i = inr (record { number = j; right = or-has-l (joinOf c (rightOf c r)) (2 ^ 63) j i; lessened = or-has-r w (2 ^ j) j (one-has j) })
+        go false i = inl (omega (arith, lower-at r t, total-same (rightOf c r) (λ z. false≢true (sym i ∙ z))))
+
+-- in the course of a round that began with w
+module _ (c : List ℕ) (w : ℕ) where
+  pub to-start : {e : List ℕ} → DueBy c e w → LessenedTo c w 0 e 0
+  to-start t =
+      record {
+        witnessed = t .witnessed;
+        passed = λ r h l. absurd (omega arith);
+        ahead = λ r h l. ⊎-elim (λ i. inl i) (λ d. inr (due-more c (λ m i. or-has-l w 0 m i) d)) (t .still r h);
+      }
+
+  pub to-end : {n u : ℕ} {e : List ℕ} → productions c ≤ n → LessenedTo c w n e u → DueBy c e u
+  to-end k t = record { witnessed = t .witnessed; still = λ r h. t .passed r h (omega arith) }
+
+  module _ {n u : ℕ} {e : List ℕ} (t : LessenedTo c w n e u) (h : n < productions c) where
+    -- production n, or one before it
+    here-or : {A : Type 0} (r : ℕ) → r < n + 1 → (r ≡ n → A) → (r < n → A) → A
+    here-or r k a b = ⊎-elim a b (eq-or-lt-of-le (le-of-suc-le-suc (rw add-one at k)))
+
+    pub to-skip : (Due c (bitOr w u) n → ⊥) → LessenedTo c w (n + 1) e u
+    to-skip never =
+        record {
+          witnessed = t .witnessed;
+          passed = λ r b k. here-or r k (λ i. rw i (⊎-elim (λ s. inl s) (λ d. absurd (never d)) (t .ahead n h (omega arith)))) (λ l. t .passed r b l);
+          ahead = λ r b k. t .ahead r b (omega arith);
+        }
+
+    pub to-more : formFault c ≡ 0 → {e′ : List ℕ} {v : ℕ} → Lessened c e n e′ v → LessenedTo c w (n + 1) e′ (bitOr u v)
+    to-more fault (kept still) =
+        record {
+          witnessed = t .witnessed;
+          passed = λ r b k. here-or r k (λ i. inl (rw i still)) (λ l. ⊎-elim (λ s. inl s) (λ d. inr (due-more c (λ m i. or-has-l u 0 m i) d)) (t .passed r b l));
+          ahead = λ r b k. ⊎-elim (λ s. inl s) (λ d. inr (due-more c (grown 0) d)) (t .ahead r b (omega arith));
+        }
+      where
+        grown : (v : ℕ) → Within (bitOr w u) (bitOr w (bitOr u v))
+        grown v m i = ⊎-elim (λ a. or-has-l w (bitOr u v) m a) (λ a. or-has-r w (bitOr u v) m (or-has-l u v m a)) (has-or w u m i)
+    to-more fault (less k) =
+        record {
+          witnessed = witnessed-less c e fault (t .witnessed) n h k;
+          passed = λ r b l.
+              here-or r l
+              (λ i. after c e fault n h (t .witnessed) k u r (inl (inl i)))
+              (λ l. after c e fault n h (t .witnessed) k u r (⊎-elim (λ s. inl (inr s)) (λ d. inr d) (t .passed r b l)));
+          ahead = λ r b l.
+              ⊎-elim (λ s. inl s) (λ d. inr (due-more c grown d))
+              (after c e fault n h (t .witnessed) k (bitOr w u) r (⊎-elim (λ s. inl (inr s)) (λ d. inr d) (t .ahead r b (omega arith))));
+        }
+      where
+        grown : Within (bitOr (bitOr w u) (2 ^ leftNumber c n)) (bitOr w (bitOr u (2 ^ leftNumber c n)))
+        grown m i =
+            ⊎-elim
+            (λ a. ⊎-elim (λ a. or-has-l w (bitOr u (2 ^ leftNumber c n)) m a) (λ a. or-has-r w (bitOr u (2 ^ leftNumber c n)) m (or-has-l u (2 ^ leftNumber c n) m a)) (has-or w u m a))
+            (λ a. or-has-r w (bitOr u (2 ^ leftNumber c n)) m (or-has-r u (2 ^ leftNumber c n) m a))
+            (has-or (bitOr w u) (2 ^ leftNumber c n) m i)
+
+-- ---- the sum of all lengths
+
+pub lower-more : {e₀ e : List ℕ} {u : ℕ} → Lower e₀ e u → (c : List ℕ) {n : ℕ} {e′ : List ℕ} {v : ℕ} → Lessened c e n e′ v → Lower e₀ e′ (bitOr u v)
+lower-more (same z q) c (kept still) = same (rw z refl) q
+lower-more (lower l) c (kept still) = lower l
+lower-more {e₀} {e} (same z q) c {n} (less k) = lower (omega (arith, mass-set e (leftNumber c n) (totalOf c e (rightOf c n)) k, ap mass q))
+lower-more {e₀} {e} (lower l) c {n} (less k) = lower (omega (arith, mass-set e (leftNumber c n) (totalOf c e (rightOf c n)) k))
+
+pub lower-some : {e₀ e : List ℕ} {u : ℕ} → Lower e₀ e u → (u ≡ 0 → ⊥) → mass e < mass e₀
+lower-some (same z q) n = absurd (n z)
+lower-some (lower l) n = l
+
+-- nothing was lessened
+pub lessened-none : (c e : List ℕ) (u : ℕ) → formFault c ≡ 0 → DueBy c e u → u ≡ 0 → ShortestLengths (grammarOf c) e
+lessened-none c e u fault t z =
+    all-shortest c e fault (λ r h. ⊎-elim (λ s. s) (λ (d : Due c u r). absurd (has-none (d .number) (subst (λ (n : ℕ). Has n (d .number)) z (d .lessened)))) (t .still r h)) (t .witnessed)

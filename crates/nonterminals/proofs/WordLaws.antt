@@ -6,14 +6,16 @@ use mathlib.Core.Logic.{⊎-elim}
 use Prim.Native.Nat.{ℕ, _+_, _-_, _^_, _≤_, _<_}
 use lib.Bits.{bitOr, or-add-and, and-le-r}
 use native.Mathlib.Omega.{arith}
+use lib.ListN.{getD, set, length-set, replicate, length-replicate}
+use lib.Seq.{getD-set-same, getD-set-other}
 use borrow.Author.Tests.{lt-ltb, le-ltb}
 use Rattle.sets.specs.Bit.{bit, Within}
 use Rattle.sets.proofs.BitLaws.{bit-or, bit-zero, bits-eq}
-use Rattle.sets.proofs.HasLaws.{has-none, has-or, or-has-l, or-has-r, or-assoc, or-false}
-use Rattle.grammar.specs.Card.{terminals, nonterminals, productions, lengthOf, symbolOf, startOf, formFault}
+use Rattle.sets.proofs.HasLaws.{eq-or, has-none, has-or, or-has-l, or-has-r, or-assoc, or-false}
+use Rattle.grammar.specs.Card.{terminals, nonterminals, productions, lengthOf, rightOf, symbolOf, startOf, formFault}
 use Rattle.grammar.proofs.CardLaws.{well-formed, start-mono, right-at}
 use Rattle.grammar.proofs.Closed.{All, none, more}
-use Rattle.nonterminals.specs.Gathering.{wordOf, joinOf}
+use Rattle.nonterminals.specs.Gathering.{wordOf, joinOf, Rights}
 
 or-within : (p q : Bool) → (p ≡ true → q ≡ true) → (p || q) ≡ q
 or-within true q e = sym (e refl)
@@ -61,3 +63,20 @@ module _ (c : List ℕ) (h : formFault c ≡ 0) (r d : ℕ) (k : r < productions
 
 pub ends-below : (c : List ℕ) → formFault c ≡ 0 → (r : ℕ) → r < productions c → startOf c r + lengthOf c r ≤ 512
 ends-below c h r k = let w = well-formed c h in omega (arith, start-mono c (productions c) r k, w .sum, w .limits .symbols-to)
+
+-- ---- the right sides
+
+pub rights-start : (c : List ℕ) → Rights c 0 (replicate 128 0)
+rights-start c = record { long = length-replicate {A = ℕ} 128 0; words = λ r h. absurd (omega arith) }
+
+pub rights-more : (c v : List ℕ) (n : ℕ) → Rights c n v → n < 128 → (i x : ℕ) → i ≡ n → x ≡ joinOf c (rightOf c n) → Rights c (n + 1) (set v i x)
+rights-more c v n R h i x ei ex =
+    rw ei
+    (record {
+      long = length-set v n x ∙ R .long;
+      words = λ r k.
+          ⊎-elim
+          (λ (e : r ≡ n). rw e (getD-set-same v n x 0 (omega (arith, R .long)) ∙ ex))
+          (λ (e : r ≡ n → ⊥). getD-set-other v n r x 0 e ∙ R .words r (omega arith))
+          (eq-or r n);
+    })

@@ -1,9 +1,11 @@
 -- How a set is gathered: round after round each production adds to it, until nothing is new. Only the private functions cite this.
+use mathlib.Core.Path.{_≡_}
 use Prim.Native.Nat.{ℕ, _+_, _-_, _^_, _<_}
 use mathlib.Core.List.{List, [], _∷_}
 use mathlib.Core.Bool.{cond}
 use lib.Dec.{ltb}
 use lib.Bits.{bitOr}
+use lib.ListN.{length, getD}
 use Rattle.sets.specs.Bit.{Has, Within}
 use Rattle.grammar.specs.Grammar.{Grammar}
 use Rattle.grammar.specs.Card.{terminals, nonterminals, productions, leftOf, rightOf, grammarOf}
@@ -24,6 +26,11 @@ wordOf c x = cond (ltb x (terminals c)) 0 (2 ^ (x - terminals c))
 unfoldable pub joinOf : List ℕ → List ℕ → ℕ
 joinOf c [] = 0
 joinOf c (x ∷ l) = bitOr (wordOf c x) (joinOf c l)
+
+-- v has the right sides of the first n productions as sets
+pub record Rights (c : List ℕ) (n : ℕ) (v : List ℕ) : Type 0 where
+  pub long : length v ≡ 128
+  pub words : (r : ℕ) → r < n → getD v r 0 ≡ joinOf c (rightOf c r)
 
 -- what must be in a set for production r to add to it, and what it adds
 unfoldable pub needsOf : List ℕ → Kind → ℕ → ℕ

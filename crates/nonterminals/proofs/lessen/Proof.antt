@@ -1,6 +1,7 @@
 use native.Mathlib.Omega.{arith}
 use denote.Ref.{now}
 use borrow.Author.Needs.{needs}
+use Rattle.sets.proofs.BitLaws.{one-shl}
 use Rattle.nonterminals.proofs.LengthLaws.{lessen-less, lessen-kept}
 use Rattle.nonterminals.proofs.lessen.Statement.{statement}
 use Rattle.nonterminals.proofs.lessen.Tie as tie
@@ -19,7 +20,9 @@ cast-e c =
 returns : tie.Need-returns
 returns c =
     let start = c .before .before .before .before .before .before .before in
-    lessen-less (now (start .args .c)) (now (start .args .e)) (start .args .r) _ _ _ (c .before .before .before .before .before .left-number .ensures .0) (c .before .before .before .wider .ensures) (c .before .total .ensures) (c .if1 .taken)
+    let at = c .before .before .before .before .before .left-number .ensures in
+    rw (one-shl 64 (c .before .before .before .before .before .left-number .result) (omega (arith, at .1)))
+    (lessen-less (now (start .args .c)) (now (start .args .e)) (start .args .r) _ _ _ (at .0) (c .before .before .before .wider .ensures) (c .before .total .ensures) (c .if1 .taken))
 
 returns-2 : tie.Need-returns-2
 returns-2 c =
@@ -36,6 +39,7 @@ lessen-spec =
     (λ c κs. search needs)
     total-requires
     cast-e
+    (λ c. search needs)
     (λ c. search needs)
     (λ c. search needs)
     returns
