@@ -22,15 +22,16 @@ T, N = 3, 60
 def chain(name, more, own, order):
     """Each nonterminal is the next and `more` terminals, or `own` terminals, if any; the last is one terminal."""
     found = bench.Card("chains", name)
-    rules = [(T + j, [T + j + 1] + [1] * more) for j in range(N - 1)] + [(T + N - 1, [2])]
-    rules = order(rules + [(T + j, [2] * own) for j in range(N) if own])
-    rights = [symbol for _, right in rules for symbol in right]
-    found.numbers = [T, N, len(rules), len(rights)] + [left for left, _ in rules] + [len(right) for _, right in rules] + rights
+    productions = [(T + j, [T + j + 1] + [1] * more) for j in range(N - 1)] + [(T + N - 1, [2])]
+    productions = order(productions + [(T + j, [2] * own) for j in range(N) if own])
+    rights = [symbol for _, right in productions for symbol in right]
+    lefts, lengths = [left for left, _ in productions], [len(right) for _, right in productions]
+    found.numbers = [T, N, len(productions), len(rights)] + lefts + lengths + rights
     return found
 
 
-# An order in which one round finds all lengths, one in which a round finds one, and one between them.
-ORDERS = {"behind": list, "before": lambda rules: rules[::-1], "mixed": lambda rules: rules[::2] + rules[::-2]}
+# An order in which a round finds one length, one in which it finds all, and one between them.
+ORDERS = {"behind": list, "before": lambda productions: productions[::-1], "mixed": lambda productions: productions[::2] + productions[::-2]}
 CHAINS = [chain(f"next-{name}-{more}-{own}", more, own, order)
           for name, order in ORDERS.items() for more, own in [(0, 0), (3, 0), (0, 7)]]
 

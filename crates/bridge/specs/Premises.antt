@@ -1,12 +1,12 @@
 -- What the maker knows of a card when its states are numbered, and when the sets of its transitions are complete.
-use Prim.Native.Nat.{ℕ, _+_, _≤_, _<_}
+use Prim.Native.Nat.{ℕ, _≤_, _<_}
 use mathlib.Core.Path.{_≡_}
 use mathlib.Core.Logic.{_≢_}
 use mathlib.Core.List.{List}
 use lib.ListN.{getD}
 use Rattle.grammar.specs.Useful.{Productive, Nonterminal}
-use Rattle.grammar.specs.Shortest.{ShortestLength}
-use Rattle.grammar.specs.Card.{terminals, nonterminals, grammarOf, formFault}
+use Rattle.grammar.specs.Shortest.{ShortestLengths}
+use Rattle.grammar.specs.Card.{nonterminals, grammarOf, formFault}
 use Rattle.lr.specs.States.{States}
 use Rattle.lr.specs.Relations.{Transition}
 use Rattle.transitions.specs.Area.{leavesOf, nonterminalOf, shortestOf}
@@ -32,7 +32,7 @@ transitionOf w i = record { state = leavesOf w i; symbol = nonterminalOf w i }
 pub record Followed (c w : List ℕ) (n k : ℕ) (next : ℕ → ℕ → ℕ) (z : List ℕ) : Type 0 where
   pub stated : Stated c n next
   pub listed : Data c w n k next
-  pub shortest : (j : ℕ) → j < nonterminals c → ShortestLength (grammarOf c) (terminals c + j) (shortestOf w j)
+  pub shortest : ShortestLengths (grammarOf c) (nonterminals c) (shortestOf w)
   -- the area before the walks, and between them
   pub begun : List ℕ
   pub between : List ℕ

@@ -10,7 +10,7 @@ use lib.Seq.{ext-getD, getD-drop}
 use borrow.Author.Tests.{lt-ltb}
 use Rattle.sets.specs.Lists.{covered}
 use Rattle.grammar.specs.Useful.{LowestUseless}
-use Rattle.grammar.specs.Shortest.{ShortestLength}
+use Rattle.grammar.specs.Shortest.{ShortestLengths}
 use Rattle.grammar.specs.Card.{terminals, nonterminals, productions, leftOf, lengthOf, formFault, grammarOf}
 use Rattle.grammar.proofs.CardLaws.{right-length}
 use Rattle.tables.specs.Layout.{build}
@@ -110,7 +110,7 @@ module _ (t₀ z₀ w₀ c : List ℕ) where
         entering-below q h = entered-below (grammarOf c) (card-formed stated) (card-productive stated) (entering-is q (enteringOf w q) h .0 refl)
 
       module _ (w z₁ z : List ℕ) (k : ℕ) (count : k ≡ transitionCount c (nextOf c t n) n) (small : k ≤ transitionLimit) (data′ : Data c w n k (nextOf c t n))
-          (shortest : (j : ℕ) → j < nonterminals c → ShortestLength (grammarOf c) (terminals c + j) (shortestOf w j)) (co : Complete c w n k (nextOf c t n) z₁ z) where
+          (shortest : ShortestLengths (grammarOf c) (nonterminals c) (shortestOf w)) (co : Complete c w n k (nextOf c t n) z₁ z) where
         followed : Followed c w n k (nextOf c t n) z
         followed = record { stated = stated; listed = data′; shortest = shortest; begun = co .begun; between = co .walks .between; direct = co .direct; reads = co .walks .first .sets; includes = co .walks .second .sets }
 

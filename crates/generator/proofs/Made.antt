@@ -1,12 +1,12 @@
 -- The answers of `make`, from what each phase leaves.
 use mathlib.Core.Path.{_≡_, refl, ap, _∙_}
 use mathlib.Core.List.{List, []}
-use Prim.Native.Nat.{ℕ, _+_, _≤_, _<_}
+use Prim.Native.Nat.{ℕ, _≤_, _<_}
 use native.Mathlib.Omega.{arith}
-use lib.ListN.{length}
+use lib.ListN.{length, getD}
 use Rattle.sets.specs.Lists.{covered}
 use Rattle.grammar.specs.Card.{terminals, nonterminals, formFault, grammarOf}
-use Rattle.grammar.specs.Shortest.{ShortestLength}
+use Rattle.grammar.specs.Shortest.{ShortestLengths}
 use Rattle.grammar.proofs.CardLaws.{well-formed}
 use Rattle.areas.specs.Areas.{tableSize, wordsSize, halvesSize}
 use Rattle.lr.proofs.ItemLaws.{all-productive}
@@ -15,7 +15,6 @@ use Rattle.lalr.specs.Answer.{made, refused, conflict}
 use Rattle.lalr.specs.ComputedGenerator.{generated}
 use Rattle.lalr.specs.Meaning.{AllUseful}
 use Rattle.lalr.specs.Demand2.{Room}
-use Rattle.nonterminals.specs.Lengths.{ShortestLengths}
 use Rattle.states.specs.States.{transition}
 use Rattle.states.specs.States as states
 use Rattle.automaton.specs.Outcome.{Outcome, few, many}
@@ -97,8 +96,8 @@ module _ (t₀ z₀ w₀ c : List ℕ) (o : Room t₀ z₀ w₀) (f : formFault 
           words-left : covered wordsSize [] z₂ ≡ covered wordsSize [] z₀
           words-left = covered-same wordsSize [] z₀ z₂ (co .long ∙ lz) (λ i h. co .beyond i h ∙ b .sets-kept .kept i (omega arith))
 
-          module _ (lengths : ShortestLengths (grammarOf c) e) where
-            short : (j : ℕ) → j < nonterminals c → ShortestLength (grammarOf c) (terminals c + j) (shortestOf w₂ j)
+          module _ (lengths : ShortestLengths (grammarOf c) 60 (λ j. getD e j 0)) where
+            short : ShortestLengths (grammarOf c) (nonterminals c) (shortestOf w₂)
             short j h = let b : j < 60 = omega (arith, well-formed c f .limits .nonterminals-to) in rw (l .lengths j b) (lengths j b)
 
             -- a table

@@ -20,11 +20,10 @@ use Rattle.sets.proofs.HasLaws.{lt-or-ge, eq-or, has-none, one-has, has-or, or-
 use Rattle.grammar.specs.Grammar.{Symbols, Formed}
 use Rattle.grammar.specs.Card.{terminals, nonterminals, productions, leftOf, lengthOf, rightOf, symbolOf, startOf, grammarOf, formFault}
 use Rattle.grammar.specs.Useful.{Productive}
-use Rattle.grammar.specs.Shortest.{lengthCap}
+use Rattle.grammar.specs.Shortest.{lengthCap, ShortestLengths}
 use Rattle.grammar.proofs.CardLaws.{well-formed, formed, right-is}
 use Rattle.grammar.proofs.Yield.{Yields, nil, terminal, nonterminal, append, yield-terminals}
 use Rattle.grammar.proofs.Derive.{derives-yields, yields-derives}
-use Rattle.nonterminals.specs.Lengths.{ShortestLengths}
 use Rattle.nonterminals.specs.Gathering.{wordOf, joinOf}
 use Rattle.nonterminals.specs.Lessening.{countOf, totalOf, Below, Witnessed, leftNumber, Still, Lessened, kept, less, Due, DueBy, LessenedTo, mass, Lower, same, lower}
 use Rattle.nonterminals.proofs.WordLaws.{word-nonterminal}
@@ -98,7 +97,7 @@ module _ (c e : List ℕ) (fault : formFault c ≡ 0) where
     no-shorter (nonterminal {u = u} {v = v} r h x y) =
         omega (arith, no-shorter x, no-shorter y, still r h, count-nonterminal c e (leftOf c r) (f .left-nonterminal r h), length-append u v)
 
-    all-shortest : Witnessed c e → ShortestLengths (grammarOf c) e
+    all-shortest : Witnessed c e → ShortestLengths (grammarOf c) 60 (λ j. getD e j 0)
     unfolding totalOf
     all-shortest s j h =
         record {
@@ -320,6 +319,6 @@ lower-some (same z q) n = absurd (n z)
 lower-some (lower l) n = l
 
 -- nothing was lessened
-pub lessened-none : (c e : List ℕ) (u : ℕ) → formFault c ≡ 0 → DueBy c e u → u ≡ 0 → ShortestLengths (grammarOf c) e
+pub lessened-none : (c e : List ℕ) (u : ℕ) → formFault c ≡ 0 → DueBy c e u → u ≡ 0 → ShortestLengths (grammarOf c) 60 (λ j. getD e j 0)
 lessened-none c e u fault t z =
     all-shortest c e fault (λ r h. ⊎-elim (λ s. s) (λ (d : Due c u r). absurd (has-none (d .number) (subst (λ (n : ℕ). Has n (d .number)) z (d .lessened)))) (t .still r h)) (t .witnessed)

@@ -1,4 +1,3 @@
 pub mod Sets
 pub mod Gathering
-pub mod Lengths
 pub mod Lessening

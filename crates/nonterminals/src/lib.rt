@@ -4,12 +4,12 @@ ghost use mathlib.Core.Path.{_≡_};
 ghost use mathlib.Core.Bool.{true};
 ghost use mathlib.Core.List.{List};
 ghost use Prim.Native.Nat.{ℕ, _+_, _≤_, _<_};
+ghost use lib.ListN.{getD};
 ghost use Rattle.grammar.specs.Card.{terminals, nonterminals, productions, symbols, leftOf, rightOf, symbolOf, startOf, grammarOf, formFault};
 ghost use Rattle.grammar.specs.Useful.{Productive, Reachable, LowestUseless};
-ghost use Rattle.grammar.specs.Shortest.{lengthCap};
+ghost use Rattle.grammar.specs.Shortest.{lengthCap, ShortestLengths};
 ghost use Rattle.nonterminals.specs.Sets.{NonterminalSet};
 ghost use Rattle.nonterminals.specs.Gathering.{wordOf, joinOf, Rights, needsOf, givesOf, Sound, Round, Settled};
-ghost use Rattle.nonterminals.specs.Lengths.{ShortestLengths};
 ghost use Rattle.nonterminals.specs.Lessening.{countOf, totalOf, Below, Witnessed, leftNumber, Lessened, Due, DueBy, Lower};
 
 // What a set gathers.
@@ -240,10 +240,10 @@ fn lessen_all(c: &[u16], v: &[u64; 128], e: &mut [u16; 60], w: u64) -> u64
     u
 }
 
-// For each nonterminal the length of the shortest string of terminals that it derives.
+// For each nonterminal the length of the shortest string of terminals that it derives; 65,535 for that much or more, and for none.
 pub fn shortest(c: &[u16]) -> [u16; 60]
     requires { ⌜ formFault (now c) ≡ 0 ⌝ }
-    ensures { λ e. ⌜ ShortestLengths (grammarOf (now (c .entry))) e ⌝ }
+    ensures { λ e. ⌜ ShortestLengths (grammarOf (now (c .entry))) 60 (λ j. getD e j 0) ⌝ }
 {
     let v = rights(c);
     let mut e = [65535u16; 60];

@@ -6,7 +6,7 @@ use mathlib.Core.List.{List}
 use lib.ListN.{length, getD}
 use Rattle.grammar.specs.Card.{terminals, nonterminals, productions, lengthOf, startOf}
 use Rattle.transitions.specs.Places.{lastsAt, occurrencesAt, halvesEnd}
-use Rattle.transitions.specs.Area.{startingOf, lastOf, productionOf, dotOf, linkOf, shortestOf}
+use Rattle.transitions.specs.Area.{startingOf, lastOf, productionOf, dotOf, linkOf, shortestOf, LengthsAre}
 use Rattle.transitions.specs.Occurrences.{Occurs, occurringOf, Latest, Occurrences}
 
 -- by the lengths e the occurrences in the productions below r, and in r from d on, are m
@@ -38,6 +38,6 @@ pub record Collected (c w w′ : List ℕ) (m : ℕ) : Type 0 where
 pub record Prepared (c e w w′ : List ℕ) : Type 0 where
   pub starts : Started c w′ (productions c)
   pub occurrences : Occurrences c (shortestOf w′) w′
-  pub lengths : (j : ℕ) → j < 60 → shortestOf w′ j ≡ getD e j 0
+  pub lengths : LengthsAre w′ e 60
   pub long : length w′ ≡ length w
   pub high : (i : ℕ) → halvesEnd ≤ i → getD w′ i 0 ≡ getD w i 0

@@ -48,7 +48,7 @@ fn tail(c: &[u16], w: &mut [u32], r: u16, s: u32, m: u32) -> u32
         }
         occur(w, k, card::wider(r), d, x - t);
         k += 1;
-        if transitions::shortest(w, x - t) != 0 {
+        if transitions::shortest_length(w, x - t) != 0 {
             return k;
         }
     }

@@ -97,7 +97,7 @@ pub fn index(w: &[u32], p: u32, x: u32) -> u32
     transitions::LIMIT
 }
 
-// Whether x is a nullable nonterminal: the shortest string that it derives has no terminal.
+// Whether x is a nullable nonterminal: one whose shortest length is 0.
 fn nullable(c: &[u16], w: &[u32], x: u32) -> bool
     ensures { λ r. ⌜ Tells r (Nullable (now (c .entry)) (shortestOf (now (w .entry))) x) ⌝ }
 {
@@ -105,7 +105,7 @@ fn nullable(c: &[u16], w: &[u32], x: u32) -> bool
     if x < t {
         return false;
     }
-    transitions::shortest(w, x - t) == 0
+    transitions::shortest_length(w, x - t) == 0
 }
 
 fn first_reads(w: &[u32], x: u32) -> Cursor

@@ -8,7 +8,7 @@ use lib.ListN.{length, getD}
 use Rattle.sets.specs.Bit.{bit}
 use Rattle.grammar.specs.Card.{terminals, nonterminals, productions, startOf, formFault}
 use Rattle.transitions.specs.Places.{transitionLimit, halvesEnd, shiftsAt, wordsEnd}
-use Rattle.transitions.specs.Area.{leavesOf, nonterminalOf, entersOf, firstOf, enteringOf, precedes, startingOf, shortestOf}
+use Rattle.transitions.specs.Area.{leavesOf, nonterminalOf, entersOf, firstOf, enteringOf, precedes, startingOf, shortestOf, LengthsAre}
 use Rattle.transitions.specs.Next.{Goes, transitionCount}
 use Rattle.transitions.specs.Occurrences.{Occurrences}
 
@@ -52,7 +52,7 @@ pub record Data (c w : List ℕ) (n k : ℕ) (next : ℕ → ℕ → ℕ) : Type
 pub record Built (c w₀ w : List ℕ) (n k : ℕ) (e : List ℕ) (next : ℕ → ℕ → ℕ) : Type 0 where
   pub count : k ≡ transitionCount c next n
   pub holds : k ≤ transitionLimit → Data c w n k next
-  pub lengths : (j : ℕ) → j < 60 → shortestOf w j ≡ getD e j 0
+  pub lengths : LengthsAre w e 60
   pub long : length w ≡ length w₀
   pub rest : (i : ℕ) → halvesEnd ≤ i → getD w i 0 ≡ getD w₀ i 0
 

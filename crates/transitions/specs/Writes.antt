@@ -6,7 +6,7 @@ use mathlib.Core.List.{List}
 use lib.Dec.{eqb}
 use lib.ListN.{length, getD}
 use Rattle.transitions.specs.Places.{predecessorsAt, startsAt, lengthsAt}
-use Rattle.transitions.specs.Area.{precedes, shortestOf}
+use Rattle.transitions.specs.Area.{precedes, LengthsAre}
 
 -- place i holds v, and each other place what it held
 pub record Stored (w : List ℕ) (i v : ℕ) (w′ : List ℕ) : Type 0 where
@@ -24,6 +24,6 @@ pub record Preceded (w : List ℕ) (q p : ℕ) (w′ : List ℕ) : Type 0 where
 -- the shortest lengths of the first n nonterminals are those of e, and each other place holds what it held
 pub record Measured (w e : List ℕ) (n : ℕ) (w′ : List ℕ) : Type 0 where
   pub long : length w′ ≡ length w
-  pub lengths : (j : ℕ) → j < n → shortestOf w′ j ≡ getD e j 0
+  pub lengths : LengthsAre w′ e n
   pub low : (i : ℕ) → i < lengthsAt → getD w′ i 0 ≡ getD w i 0
   pub high : (i : ℕ) → lengthsAt + n ≤ i → getD w′ i 0 ≡ getD w i 0

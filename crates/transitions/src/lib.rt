@@ -129,8 +129,8 @@ pub fn link(w: &[u32], o: u32) -> u32
     after(w, LINKS_AT, o)
 }
 
-// The length of the shortest string of terminals that nonterminal number j derives.
-pub fn shortest(w: &[u32], j: u32) -> u32
+// The shortest length of nonterminal number j.
+pub fn shortest_length(w: &[u32], j: u32) -> u32
     ensures { λ r. ⌜ r ≡ shortestOf (now (w .entry)) j ⌝ }
 {
     after(w, LENGTHS_AT, j)

@@ -95,7 +95,7 @@ returns-2 c =
     let occurs = tail-occurs _ _ _ _ (loop-test .taken) (inv .0) _ (pre .1) (inv .2) x (omega (arith, t)) in
     let gathered = gather-more _ _ _ _ _ _ (inv .1) _ (well-formed _ (pre .0) .limits .nonterminals-to) (loop-test .taken) (inv .0) _ number (tail-split _ _ _ _ _ t left x) occurs (rw (put-down .before .wider4 .ensures) at occur) in
     let between = between-step _ _ _ _ _ _ _ (inv .3) occur in
-    (tail-last _ _ _ _ (loop-test .taken) (inv .0) _ _ _ _ _ gathered x t (c .before .shortest .ensures ∙ between .high (lengthsAt + _) (omega arith)) (omega arith), between)
+    (tail-last _ _ _ _ (loop-test .taken) (inv .0) _ _ _ _ _ gathered x t (c .before .shortest-length .ensures ∙ between .high (lengthsAt + _) (omega arith)) (omega arith), between)
 
 loop-again : tie.Need-loop-again Inv-loop μ-loop
 loop-again c =
@@ -115,7 +115,7 @@ loop-again c =
     let occurs = tail-occurs _ _ _ _ (loop-test .taken) (inv .0) _ (pre .1) (inv .2) x (omega (arith, t)) in
     let gathered = gather-more _ _ _ _ _ _ (inv .1) _ (well-formed _ (pre .0) .limits .nonterminals-to) (loop-test .taken) (inv .0) _ number (tail-split _ _ _ _ _ t left x) occurs (rw (put-down .before .wider4 .ensures) at occur) in
     let between = between-step _ _ _ _ _ _ _ (inv .3) occur in
-    (omega arith, gathered, tail-null _ _ _ _ (loop-test .taken) (inv .0) _ _ _ (inv .2) x t left (c .before .shortest .ensures ∙ between .high (lengthsAt + _) (omega arith)) (omega arith), between)
+    (omega arith, gathered, tail-null _ _ _ _ (loop-test .taken) (inv .0) _ _ _ (inv .2) x t left (c .before .shortest-length .ensures ∙ between .high (lengthsAt + _) (omega arith)) (omega arith), between)
 
 same-length-3 : tie.Need-same-length-3 Inv-loop μ-loop
 same-length-3 c = c .before .loop .inv .3 .long

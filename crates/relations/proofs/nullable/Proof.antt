@@ -11,7 +11,7 @@ returns c = null-no _ _ _ (omega arith)
 returns-2 : tie.Need-returns-2
 returns-2 c =
     let named = c .before .before in
-    null-tells _ _ _ _ _ (named .wider .ensures ∙ named .before .terminals .ensures) (c .before .if1 .left) (c .shortest .ensures)
+    null-tells _ _ _ _ _ (named .wider .ensures ∙ named .before .terminals .ensures) (c .before .if1 .left) (c .shortest-length .ensures)
 
 pub nullable-spec : {M : Type 1} → statement M
 nullable-spec = tie.close (tie.spec (λ c κs. search needs) (λ c κs. search needs) returns (λ c κs. search needs) returns-2)
