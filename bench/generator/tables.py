@@ -1,7 +1,7 @@
 #!/usr/bin/env python3
 """Instructions of whole calls for all stored cards, by family, and for chains of 60
-nonterminals, whose shortest lengths take most rounds in one order of the productions. tables.sh builds what
-it needs and calls it.
+nonterminals, whose shortest lengths take most rounds in one order of the productions.
+tables.sh builds what it needs and calls it.
 
     tables.py FOLDER ARCHIVE..
 
@@ -22,16 +22,18 @@ T, N = 3, 60
 def chain(name, more, own, order):
     """Each nonterminal is the next and `more` terminals, or `own` terminals, if any; the last is one terminal."""
     found = bench.Card("chains", name)
-    productions = [(T + j, [T + j + 1] + [1] * more) for j in range(N - 1)] + [(T + N - 1, [2])]
-    productions = order(productions + [(T + j, [2] * own) for j in range(N) if own])
-    rights = [symbol for _, right in productions for symbol in right]
-    lefts, lengths = [left for left, _ in productions], [len(right) for _, right in productions]
-    found.numbers = [T, N, len(productions), len(rights)] + lefts + lengths + rights
+    rules = [(T + j, [T + j + 1] + [1] * more) for j in range(N - 1)] + [(T + N - 1, [2])]
+    rules = order(rules + [(T + j, [2] * own) for j in range(N) if own])
+    rights = [symbol for _, right in rules for symbol in right]
+    lefts, lengths = [left for left, _ in rules], [len(right) for _, right in rules]
+    found.numbers = [T, N, len(rules), len(rights)] + lefts + lengths + rights
     return found
 
 
-# An order in which a round finds one length, one in which it finds all, and one between them.
-ORDERS = {"behind": list, "before": lambda productions: productions[::-1], "mixed": lambda productions: productions[::2] + productions[::-2]}
+# The next nonterminal's production stands behind; or before, where a round from the last
+# production on finds one length; or either.
+ORDERS = {"behind": list, "before": lambda rules: rules[N - 1::-1] + rules[N:],
+          "either": lambda rules: rules[::2] + rules[::-2]}
 CHAINS = [chain(f"next-{name}-{more}-{own}", more, own, order)
           for name, order in ORDERS.items() for more, own in [(0, 0), (3, 0), (0, 7)]]
 

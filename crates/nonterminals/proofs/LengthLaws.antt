@@ -5,8 +5,7 @@ use mathlib.Core.List.{List, [], _∷_, _++_, append-nil}
 use mathlib.Core.Logic.{_⊎_, inl, inr, ⊎-elim}
 use Prim.Native.Nat.{ℕ, zero, suc, _+_, _-_, _^_, _≤_, _<_}
 use native.Mathlib.Omega.{arith}
-use native.Mathlib.Nat.{eq-or-lt-of-le, le-of-suc-le-suc}
-use native.Mathlib.Numerals.{add-one}
+use native.Mathlib.Nat.{eq-or-lt-of-le}
 use lib.ListN.{length, getD, set, length-append, length-set, replicate, length-replicate, getD-replicate}
 use lib.Seq.{getD-set-same, getD-set-other}
 use lib.Dec.{eqb}
@@ -25,7 +24,7 @@ use Rattle.grammar.proofs.CardLaws.{well-formed, formed, right-is}
 use Rattle.grammar.proofs.Yield.{Yields, nil, terminal, nonterminal, append, yield-terminals}
 use Rattle.grammar.proofs.Derive.{derives-yields, yields-derives}
 use Rattle.nonterminals.specs.Gathering.{wordOf, joinOf}
-use Rattle.nonterminals.specs.Lessening.{countOf, totalOf, Below, Witnessed, leftNumber, Still, Lessened, kept, less, Due, DueBy, LessenedTo, mass, Lower, same, lower}
+use Rattle.nonterminals.specs.Lessening.{countOf, totalOf, Below, Witnessed, leftNumber, Still, Lessened, kept, less, Due, LessenedDue, looked, passed-over, DueBy, LessenedTo, mass, Lower, same, lower}
 use Rattle.nonterminals.proofs.WordLaws.{word-nonterminal}
 
 module _ (c e : List ℕ) where
@@ -253,7 +252,7 @@ module _ (c e : List ℕ) (fault : formFault c ≡ 0) (n : ℕ) (h : n < product
 
 -- in the course of a round that began with w
 module _ (c : List ℕ) (w : ℕ) where
-  pub to-start : {e : List ℕ} → DueBy c e w → LessenedTo c w 0 e 0
+  pub to-start : {e : List ℕ} → DueBy c e w → LessenedTo c w (productions c) e 0
   to-start t =
       record {
         witnessed = t .witnessed;
@@ -261,33 +260,28 @@ module _ (c : List ℕ) (w : ℕ) where
         ahead = λ r h l. ⊎-elim (λ i. inl i) (λ d. inr (due-more c (λ m i. or-has-l w 0 m i) d)) (t .still r h);
       }
 
-  pub to-end : {n u : ℕ} {e : List ℕ} → productions c ≤ n → LessenedTo c w n e u → DueBy c e u
-  to-end k t = record { witnessed = t .witnessed; still = λ r h. t .passed r h (omega arith) }
+  pub to-end : {u : ℕ} {e : List ℕ} → LessenedTo c w 0 e u → DueBy c e u
+  to-end t = record { witnessed = t .witnessed; still = λ r h. t .passed r h (omega arith) }
 
-  module _ {n u : ℕ} {e : List ℕ} (t : LessenedTo c w n e u) (h : n < productions c) where
-    -- production n, or one before it
-    here-or : {A : Type 0} (r : ℕ) → r < n + 1 → (r ≡ n → A) → (r < n → A) → A
-    here-or r k a b = ⊎-elim a b (eq-or-lt-of-le (le-of-suc-le-suc (rw add-one at k)))
+  module _ {n u : ℕ} {e : List ℕ} (t : LessenedTo c w (n + 1) e u) (h : n < productions c) where
+    -- production n, or one behind it
+    here-or : {A : Type 0} (r : ℕ) → n ≤ r → (r ≡ n → A) → (n + 1 ≤ r → A) → A
+    here-or r k a b = ⊎-elim (λ (i : n ≡ r). a (sym i)) (λ (l : n < r). b (omega arith)) (eq-or-lt-of-le k)
 
-    pub to-skip : (Due c (bitOr w u) n → ⊥) → LessenedTo c w (n + 1) e u
-    to-skip never =
-        record {
-          witnessed = t .witnessed;
-          passed = λ r b k. here-or r k (λ i. rw i (⊎-elim (λ s. inl s) (λ d. absurd (never d)) (t .ahead n h (omega arith)))) (λ l. t .passed r b l);
-          ahead = λ r b k. t .ahead r b (omega arith);
-        }
-
-    pub to-more : formFault c ≡ 0 → {e′ : List ℕ} {v : ℕ} → Lessened c e n e′ v → LessenedTo c w (n + 1) e′ (bitOr u v)
-    to-more fault (kept still) =
+    to-still : Still c e n → LessenedTo c w n e (bitOr u 0)
+    to-still still =
         record {
           witnessed = t .witnessed;
           passed = λ r b k. here-or r k (λ i. inl (rw i still)) (λ l. ⊎-elim (λ s. inl s) (λ d. inr (due-more c (λ m i. or-has-l u 0 m i) d)) (t .passed r b l));
-          ahead = λ r b k. ⊎-elim (λ s. inl s) (λ d. inr (due-more c (grown 0) d)) (t .ahead r b (omega arith));
+          ahead = λ r b k. ⊎-elim (λ s. inl s) (λ d. inr (due-more c grown d)) (t .ahead r b (omega arith));
         }
       where
-        grown : (v : ℕ) → Within (bitOr w u) (bitOr w (bitOr u v))
-        grown v m i = ⊎-elim (λ a. or-has-l w (bitOr u v) m a) (λ a. or-has-r w (bitOr u v) m (or-has-l u v m a)) (has-or w u m i)
-    to-more fault (less k) =
+        grown : Within (bitOr w u) (bitOr w (bitOr u 0))
+        grown m i = ⊎-elim (λ a. or-has-l w (bitOr u 0) m a) (λ a. or-has-r w (bitOr u 0) m (or-has-l u 0 m a)) (has-or w u m i)
+
+    to-look : formFault c ≡ 0 → {e′ : List ℕ} {v : ℕ} → Lessened c e n e′ v → LessenedTo c w n e′ (bitOr u v)
+    to-look fault (kept still) = to-still still
+    to-look fault (less k) =
         record {
           witnessed = witnessed-less c e fault (t .witnessed) n h k;
           passed = λ r b l.
@@ -306,13 +300,22 @@ module _ (c : List ℕ) (w : ℕ) where
             (λ a. or-has-r w (bitOr u (2 ^ leftNumber c n)) m (or-has-r u (2 ^ leftNumber c n) m a))
             (has-or (bitOr w u) (2 ^ leftNumber c n) m i)
 
+    pub to-more : formFault c ≡ 0 → {e′ : List ℕ} {v : ℕ} → LessenedDue c e n (bitOr w u) e′ v → LessenedTo c w n e′ (bitOr u v)
+    to-more fault (looked l) = to-look fault l
+    to-more fault (passed-over never i z) = rw (i, z) (to-still (⊎-elim (λ s. s) (λ d. absurd (never d)) (t .ahead n h (omega arith))))
+
 -- ---- the sum of all lengths
 
-pub lower-more : {e₀ e : List ℕ} {u : ℕ} → Lower e₀ e u → (c : List ℕ) {n : ℕ} {e′ : List ℕ} {v : ℕ} → Lessened c e n e′ v → Lower e₀ e′ (bitOr u v)
-lower-more (same z q) c (kept still) = same (rw z refl) q
-lower-more (lower l) c (kept still) = lower l
-lower-more {e₀} {e} (same z q) c {n} (less k) = lower (omega (arith, mass-set e (leftNumber c n) (totalOf c e (rightOf c n)) k, ap mass q))
-lower-more {e₀} {e} (lower l) c {n} (less k) = lower (omega (arith, mass-set e (leftNumber c n) (totalOf c e (rightOf c n)) k))
+lower-look : {e₀ e : List ℕ} {u : ℕ} → Lower e₀ e u → (c : List ℕ) {n : ℕ} {e′ : List ℕ} {v : ℕ} → Lessened c e n e′ v → Lower e₀ e′ (bitOr u v)
+lower-look (same z q) c (kept still) = same (rw z refl) q
+lower-look (lower l) c (kept still) = lower l
+lower-look {e₀} {e} (same z q) c {n} (less k) = lower (omega (arith, mass-set e (leftNumber c n) (totalOf c e (rightOf c n)) k, ap mass q))
+lower-look {e₀} {e} (lower l) c {n} (less k) = lower (omega (arith, mass-set e (leftNumber c n) (totalOf c e (rightOf c n)) k))
+
+pub lower-more : {e₀ e : List ℕ} {u : ℕ} → Lower e₀ e u → (c : List ℕ) {n w : ℕ} {e′ : List ℕ} {v : ℕ} → LessenedDue c e n w e′ v → Lower e₀ e′ (bitOr u v)
+lower-more t c (looked l) = lower-look t c l
+lower-more (same z q) c (passed-over never i y) = same (rw (z, y) refl) (i ∙ q)
+lower-more {u = u} (lower l) c (passed-over never i y) = lower (rw i l)
 
 pub lower-some : {e₀ e : List ℕ} {u : ℕ} → Lower e₀ e u → (u ≡ 0 → ⊥) → mass e < mass e₀
 lower-some (same z q) n = absurd (n z)

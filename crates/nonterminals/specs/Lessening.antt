@@ -53,16 +53,21 @@ pub record Due (c : List ℕ) (w r : ℕ) : Type 0 where
   pub right : Has (bitOr (joinOf c (rightOf c r)) (2 ^ 63)) number
   pub lessened : Has w number
 
+-- the same for a production that is due by w; another lessens nothing
+pub data LessenedDue (c e : List ℕ) (r w : ℕ) (e′ : List ℕ) (u : ℕ) : Type 0 where
+  looked : Lessened c e r e′ u → LessenedDue c e r w e′ u
+  passed-over : (Due c w r → ⊥) → e′ ≡ e → u ≡ 0 → LessenedDue c e r w e′ u
+
 -- each production that could lessen e is due by w
 pub record DueBy (c e : List ℕ) (w : ℕ) : Type 0 where
   pub witnessed : Witnessed c e
   pub still : (r : ℕ) → r < productions c → Still c e r ⊎ Due c w r
 
--- in the course of a round that began with w: the first n productions are passed, and u was lessened
+-- in the course of a round that began with w: the productions from n on are passed, and u was lessened
 pub record LessenedTo (c : List ℕ) (w n : ℕ) (e : List ℕ) (u : ℕ) : Type 0 where
   pub witnessed : Witnessed c e
-  pub passed : (r : ℕ) → r < productions c → r < n → Still c e r ⊎ Due c u r
-  pub ahead : (r : ℕ) → r < productions c → n ≤ r → Still c e r ⊎ Due c (bitOr w u) r
+  pub passed : (r : ℕ) → r < productions c → n ≤ r → Still c e r ⊎ Due c u r
+  pub ahead : (r : ℕ) → r < productions c → r < n → Still c e r ⊎ Due c (bitOr w u) r
 
 -- the sum of all lengths
 unfoldable pub mass : List ℕ → ℕ

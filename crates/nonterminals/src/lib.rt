@@ -10,7 +10,7 @@ ghost use Rattle.grammar.specs.Useful.{Productive, Reachable, LowestUseless};
 ghost use Rattle.grammar.specs.Shortest.{lengthCap, ShortestLengths};
 ghost use Rattle.nonterminals.specs.Sets.{NonterminalSet};
 ghost use Rattle.nonterminals.specs.Gathering.{wordOf, joinOf, Rights, needsOf, givesOf, Sound, Round, Settled};
-ghost use Rattle.nonterminals.specs.Lessening.{countOf, totalOf, Below, Witnessed, leftNumber, Lessened, Due, DueBy, Lower};
+ghost use Rattle.nonterminals.specs.Lessening.{countOf, totalOf, Below, Witnessed, leftNumber, Lessened, LessenedDue, Due, DueBy, Lower};
 
 // What a set gathers.
 enum Kind {
@@ -220,22 +220,46 @@ fn due(v: &[u64; 128], r: u16, w: u64) -> bool
     (v[card::wide(r)] | FIRST_ROUND) & w != 0
 }
 
-// A round: each production that is due by w, or by what was lessened before it in this round, lessens the length of its left side.
-// Gives the nonterminals whose lengths are less now.
+// The same for a production that is due by w, v being the right sides; another lessens nothing.
+fn lessen_due(c: &[u16], v: &[u64; 128], e: &mut [u16; 60], r: u16, s: u32, w: u64) -> u64
+    requires { ⌜ (formFault (now c) ≡ 0) × (r < productions (now c)) × (s ≡ startOf (now c) r) × Witnessed (now c) (now e) × Rights (now c) (productions (now c)) (now v) ⌝ }
+    ensures { λ u. ⌜ LessenedDue (now (c .entry)) (now (e .entry)) r w (now (e .exit)) u ⌝ }
+{
+    if due(v, r, w) {
+        return lessen(c, e, r, s);
+    }
+    0
+}
+
+// Where the symbols of the last production end.
+fn end(c: &[u16]) -> u32
+    requires { ⌜ formFault (now c) ≡ 0 ⌝ }
+    ensures { λ s. ⌜ s ≡ startOf (now (c .entry)) (productions (now (c .entry))) ⌝ }
+{
+    card::wider(card::symbols(c))
+}
+
+// Where the symbols of production r begin, if those of the next one begin at s.
+fn start_before(c: &[u16], r: u16, s: u32) -> u32
+    requires { ⌜ s ≡ startOf (now c) (r + 1) ⌝ }
+    ensures { λ b. ⌜ b ≡ startOf (now (c .entry)) r ⌝ }
+{
+    s - card::wider(card::length(c, r))
+}
+
+// A round, from the last production to the first: each that is due by w, or by what was lessened before it in this round, lessens the
+// length of its left side. Gives the nonterminals whose lengths are less now.
 fn lessen_all(c: &[u16], v: &[u64; 128], e: &mut [u16; 60], w: u64) -> u64
     requires { ⌜ (formFault (now c) ≡ 0) × Rights (now c) (productions (now c)) (now v) × DueBy (now c) (now e) w ⌝ }
     ensures { λ u. ⌜ DueBy (now (c .entry)) (now (e .exit)) u × Lower (now (e .entry)) (now (e .exit)) u ⌝ }
 {
-    let p = card::productions(c);
     let mut u: u64 = 0;
-    let mut s: u32 = 0;
-    let mut r: u16 = 0;
-    while r < p {
-        if due(v, r, w | u) {
-            u |= lessen(c, e, r, s);
-        }
-        s += card::wider(card::length(c, r));
-        r += 1;
+    let mut s = end(c);
+    let mut r = card::productions(c);
+    while 0 < r {
+        r -= 1;
+        s = start_before(c, r, s);
+        u |= lessen_due(c, v, e, r, s, w | u);
     }
     u
 }
