@@ -19,15 +19,24 @@ import bench  # noqa: E402
 T, N = 3, 60
 
 
-def chain(name, more, own, order):
-    """Each nonterminal is the next and `more` terminals, or `own` terminals, if any; the last is one terminal."""
+def card(name, rules):
     found = bench.Card("chains", name)
-    rules = [(T + j, [T + j + 1] + [1] * more) for j in range(N - 1)] + [(T + N - 1, [2])]
-    rules = order(rules + [(T + j, [2] * own) for j in range(N) if own])
     rights = [symbol for _, right in rules for symbol in right]
     lefts, lengths = [left for left, _ in rules], [len(right) for _, right in rules]
-    found.numbers = [T, N, len(rules), len(rights)] + lefts + lengths + rights
+    found.numbers = [T, max(lefts) - T + 1, len(rules), len(rights)] + lefts + lengths + rights
     return found
+
+
+def chain(name, more, own, order):
+    """Each nonterminal is the next and `more` terminals, or `own` terminals, if any; the last is one terminal."""
+    rules = [(T + j, [T + j + 1] + [1] * more) for j in range(N - 1)] + [(T + N - 1, [2])]
+    return card(name, order(rules + [(T + j, [2] * own) for j in range(N) if own]))
+
+
+def fan(n):
+    """The start is any of the others, so that all are reached at once; of these each is the next, which stands before it."""
+    rules = [(T, [T + j]) for j in range(1, n)] + [(T + n - 1, [2])]
+    return card(f"fan-{n}", rules + [(T + j, [T + j + 1]) for j in range(n - 2, 0, -1)])
 
 
 # The next nonterminal's production stands behind; or before, where a round from the last
@@ -36,6 +45,7 @@ ORDERS = {"behind": list, "before": lambda rules: rules[N - 1::-1] + rules[N:],
           "either": lambda rules: rules[::2] + rules[::-2]}
 CHAINS = [chain(f"next-{name}-{more}-{own}", more, own, order)
           for name, order in ORDERS.items() for more, own in [(0, 0), (3, 0), (0, 7)]]
+CHAINS += [fan(30), fan(N)]
 
 
 def counted(program, cards):

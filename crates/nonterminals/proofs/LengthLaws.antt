@@ -166,7 +166,7 @@ module _ (c e : List ℕ) (fault : formFault c ≡ 0) where
                 (eq-or j (leftNumber c r));
           }
 
--- ---- one production after the other
+-- ---- at the beginning
 
 at-most : (n j a : ℕ) → getD (replicate n a) j 0 ≤ a
 at-most zero j a = omega arith
@@ -174,7 +174,7 @@ at-most (suc n) zero a = omega arith
 at-most (suc n) (suc j) a = at-most n j a
 
 -- no line is known
-pub no-witness : (c : List ℕ) → Witnessed c (replicate 60 lengthCap)
+no-witness : (c : List ℕ) → Witnessed c (replicate 60 lengthCap)
 no-witness c =
     record {
       long = length-replicate 60 lengthCap;

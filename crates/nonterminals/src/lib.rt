@@ -196,6 +196,14 @@ fn left_number(c: &[u16], r: u16) -> usize
     card::wide(card::left(c, r) - card::terminals(c))
 }
 
+// Whether production r is due by w, v being the right sides: w has a nonterminal of its right side, or is that of the first round.
+fn due(v: &[u64; 128], r: u16, w: u64) -> bool
+    requires { ⌜ r < 128 ⌝ }
+    ensures { λ b. ⌜ ((c : List ℕ) (n : ℕ) → Rights c n (now (v .entry)) → r < n → Due c w r → b ≡ true) ⌝ }
+{
+    (v[card::wide(r)] | FIRST_ROUND) & w != 0
+}
+
 // Lessens the length of the left side of production r to the sum of its right side, where that is less. Gives the left side as
 // a set where it was, and the empty set where it was not.
 fn lessen(c: &[u16], e: &mut [u16; 60], r: u16, s: u32) -> u64
@@ -210,14 +218,6 @@ fn lessen(c: &[u16], e: &mut [u16; 60], r: u16, s: u32) -> u64
         return 1 << j;
     }
     0
-}
-
-// Whether production r is due by w, v being the right sides: w has a nonterminal of its right side, or is that of the first round.
-fn due(v: &[u64; 128], r: u16, w: u64) -> bool
-    requires { ⌜ r < 128 ⌝ }
-    ensures { λ b. ⌜ ((c : List ℕ) (n : ℕ) → Rights c n (now (v .entry)) → r < n → Due c w r → b ≡ true) ⌝ }
-{
-    (v[card::wide(r)] | FIRST_ROUND) & w != 0
 }
 
 // The same for a production that is due by w, v being the right sides; another lessens nothing.

@@ -17,8 +17,8 @@ loop-holds c = (omega arith, measured-none _ _)
 
 loop-again : tie.Need-loop-again Inv-loop μ-loop
 loop-again c =
-    let b3 = c .before .before .before in
-    (omega arith, measured-more _ _ _ _ _ (b3 .loop .inv .1) (omega (arith, b3 .before .before .pre)) (c .wider .ensures))
+    let turn = c .before .before .before in
+    (omega arith, measured-more _ _ _ _ _ (turn .loop .inv .1) (omega (arith, turn .before .before .pre)) (c .wider .ensures))
 
 same-length : tie.Need-same-length Inv-loop μ-loop
 same-length c = c .before .loop .inv .1 .long

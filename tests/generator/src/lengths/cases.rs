@@ -155,7 +155,7 @@ fn limits() -> Vec<Case> {
     ]
 }
 
-/// Sixty nonterminals in a chain: as many rounds where the next one comes later.
+/// Sixty nonterminals in a chain: as many rounds in one of two orders, whichever way a round goes.
 fn chains() -> Vec<Case> {
     let next = |more: usize| each(60, |j| [vec![symbol(j + 1)], vec![ONE; more]].concat());
     let before = |more: usize| {
