@@ -10,10 +10,14 @@ abbrev pub lengthCap : ℕ
 lengthCap = 65535
 
 module _ (g : Grammar) where
-  -- n is that length of x: below the cap x derives a string of n terminals, and none that it derives is shorter
+  -- x derives a string of n terminals
+  abbrev pub DerivesLength : ℕ → ℕ → Type 0
+  DerivesLength x n = (line : Productive g x) × (length (line .made) ≡ n)
+
+  -- n is that length of x: below the cap a string of n terminals is derived, and none that is derived is shorter
   pub record ShortestLength (x n : ℕ) : Type 0 where
     pub most : n ≤ lengthCap
-    pub some : n < lengthCap → (line : Productive g x) × (length (line .made) ≡ n)
+    pub some : n < lengthCap → DerivesLength x n
     pub least : (line : Productive g x) → n ≤ length (line .made)
 
   -- e j is that length of symbol T + j, for each j below n; from T+N on nothing is derived, and it is the cap

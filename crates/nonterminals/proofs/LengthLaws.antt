@@ -18,8 +18,7 @@ use Rattle.sets.proofs.TestLaws.{and-true}
 use Rattle.sets.proofs.HasLaws.{lt-or-ge, eq-or, has-none, one-has, has-or, or-has-l, or-has-r}
 use Rattle.grammar.specs.Grammar.{Symbols, Formed}
 use Rattle.grammar.specs.Card.{terminals, nonterminals, productions, leftOf, lengthOf, rightOf, symbolOf, startOf, grammarOf, formFault}
-use Rattle.grammar.specs.Useful.{Productive}
-use Rattle.grammar.specs.Shortest.{lengthCap, ShortestLengths}
+use Rattle.grammar.specs.Shortest.{lengthCap, DerivesLength, ShortestLengths}
 use Rattle.grammar.proofs.CardLaws.{well-formed, formed, right-is}
 use Rattle.grammar.proofs.Yield.{Yields, nil, terminal, nonterminal, append, yield-terminals}
 use Rattle.grammar.proofs.Derive.{derives-yields, yields-derives}
@@ -138,7 +137,7 @@ module _ (c e : List ℕ) (fault : formFault c ≡ 0) where
         (_, _, append (grammarOf c) (t .2) (u .2), omega (arith, length-append (t .0) (u .0), t .3, u .3))
 
     -- the line of a production
-    line-of : (r : ℕ) → r < productions c → totalOf c e (rightOf c r) < lengthCap → (line : Productive (grammarOf c) (leftOf c r)) × (length (line .made) ≡ totalOf c e (rightOf c r))
+    line-of : (r : ℕ) → r < productions c → totalOf c e (rightOf c r) < lengthCap → DerivesLength (grammarOf c) (leftOf c r) (totalOf c e (rightOf c r))
     line-of r h k =
         let t = joined (f .right-symbols r h) k in
         (record { made = t .0; terminals = yield-terminals (grammarOf c) (t .2); derived = yields-derives (grammarOf c) (rw append-nil at (nonterminal r h (t .2) nil)) }, t .3)

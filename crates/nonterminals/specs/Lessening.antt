@@ -10,8 +10,7 @@ use lib.ListN.{length, getD, set}
 use lib.Bits.{bitOr}
 use Rattle.sets.specs.Bit.{Has}
 use Rattle.grammar.specs.Card.{terminals, productions, leftOf, rightOf, grammarOf}
-use Rattle.grammar.specs.Useful.{Productive}
-use Rattle.grammar.specs.Shortest.{lengthCap}
+use Rattle.grammar.specs.Shortest.{lengthCap, DerivesLength}
 use Rattle.nonterminals.specs.Gathering.{joinOf}
 
 -- what symbol x counts: 1 for a terminal, and for a nonterminal its length so far
@@ -32,7 +31,7 @@ pub record Below (sum m r : ℕ) : Type 0 where
 pub record Witnessed (c e : List ℕ) : Type 0 where
   pub long : length e ≡ 60
   pub most : (j : ℕ) → getD e j 0 ≤ lengthCap
-  pub lines : (j : ℕ) → j < 60 → getD e j 0 < lengthCap → (line : Productive (grammarOf c) (terminals c + j)) × (length (line .made) ≡ getD e j 0)
+  pub lines : (j : ℕ) → j < 60 → getD e j 0 < lengthCap → DerivesLength (grammarOf c) (terminals c + j) (getD e j 0)
 
 -- the number of the left side of production r
 abbrev pub leftNumber : List ℕ → ℕ → ℕ
