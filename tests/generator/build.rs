@@ -1,10 +1,12 @@
-//! Links the archives named by GENERATOR_ARCHIVE and PARSER_ARCHIVE. Without
-//! them the stand-ins of src/abi.rs take their place.
+//! Links the archives named by GENERATOR_ARCHIVE, PARSER_ARCHIVE and LENGTHS_ARCHIVE.
+//! Without them the stand-ins of src/abi.rs take their place.
 
 fn main() {
-    for (variable, cfg) in
-        [("GENERATOR_ARCHIVE", "generator_archive"), ("PARSER_ARCHIVE", "parser_archive")]
-    {
+    for (variable, cfg) in [
+        ("GENERATOR_ARCHIVE", "generator_archive"),
+        ("PARSER_ARCHIVE", "parser_archive"),
+        ("LENGTHS_ARCHIVE", "lengths_archive"),
+    ] {
         println!("cargo:rerun-if-env-changed={variable}");
         println!("cargo:rustc-check-cfg=cfg({cfg})");
         if let Some(path) = std::env::var_os(variable) {

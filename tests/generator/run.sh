@@ -1,14 +1,16 @@
 #!/bin/sh
 # Tests of the generator from outside: the archive's symbols, the reference's own
-# tests, planted faults, random cards, sums of completed sets, the comparison with
-# Bison, the table of cases and the program maketable.
+# tests, planted faults, random cards, sums of completed sets, shortest lengths, the
+# comparison with Bison, the table of cases and the program maketable.
 #
 #     tests/generator/run.sh
 #
 # GENERATOR_ARCHIVE and PARSER_ARCHIVE name the archives (`rt staticlib ..`),
 # MAKETABLE the program; without them those of target/ are taken, and a missing
-# program is skipped. STAND_IN=1 runs all of it with the reference in their place.
-# SEED and CARDS are those of the random tests. Exit status 0: all passed.
+# program is skipped. LENGTHS_ARCHIVE names that of the lengths; without it
+# lengths.sh makes one. STAND_IN=1 runs all of it with the reference, and for the
+# lengths a second way, in their place. SEED and CARDS are those of the random tests.
+# Exit status 0: all passed.
 
 set -u
 tests=$(cd "$(dirname "$0")/.." && pwd)
@@ -17,10 +19,12 @@ built=${TEST_TARGET:-$root/target/tests}
 mkdir -p "$built" || exit 2
 export CARGO_TARGET_DIR="$built"
 failed=
+# the lengths' archive, where it need not be made
+named=${LENGTHS_ARCHIVE:-}
 
 reference="$built/release/libreference_c.a"
 if [ -n "${STAND_IN:-}" ]; then
-    unset GENERATOR_ARCHIVE PARSER_ARCHIVE
+    unset GENERATOR_ARCHIVE PARSER_ARCHIVE LENGTHS_ARCHIVE
     generator=$reference
     parser=
     MAKETABLE="$built/release/maketable"
@@ -30,7 +34,8 @@ else
     for archive in "$GENERATOR_ARCHIVE" "$PARSER_ARCHIVE"; do
         [ -f "$archive" ] || { echo "no archive $archive"; exit 2; }
     done
-    export GENERATOR_ARCHIVE PARSER_ARCHIVE
+    LENGTHS_ARCHIVE=$(realpath -m "${named:-$root/target/lengths/target/staticlib/liblengths_c.a}")
+    export GENERATOR_ARCHIVE PARSER_ARCHIVE LENGTHS_ARCHIVE
     generator=$GENERATOR_ARCHIVE
     parser=$PARSER_ARCHIVE
     [ -n "${MAKETABLE:-}" ] || [ ! -x "$root/target/bin/maketable" ] || MAKETABLE="$root/target/bin/maketable"
@@ -100,6 +105,7 @@ all() {
     step reference-tests cargo test --offline --release --tests --manifest-path "$tests/reference/Cargo.toml"
     step build-reference cargo build --offline --release --manifest-path "$tests/reference/c/Cargo.toml"
     step build-maketable cargo build --offline --release --manifest-path "$tests/reference/Cargo.toml"
+    [ -n "${STAND_IN:-}$named" ] || step build-lengths sh "$tests/generator/lengths.sh"
     step build-random cargo build --offline --release --manifest-path "$tests/generator/Cargo.toml"
     [ -n "${STAND_IN:-}" ] || step symbols symbols
     [ -n "${STAND_IN:-}" ] || step binding env SIDUMZA_LIB="$(dirname "$generator")" cargo test --offline --release \
@@ -116,6 +122,7 @@ all() {
     step comparisons-fail comparisons_fail
     step random "$built/release/generator-tests" random
     step sums "$built/release/generator-tests" sums
+    step lengths "$built/release/generator-tests" lengths
     if command -v bison >/dev/null; then
         step bison python3 "$tests/bison/bison.py" check
     else

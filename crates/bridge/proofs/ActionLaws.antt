@@ -41,7 +41,7 @@ module _ {c : List ℕ} {n : ℕ} {next : ℕ → ℕ → ℕ} (s : Stated c n n
   start-moves : next 0 (terminals c) ≢ 0
   start-moves = s .states .moved (start-viable (grammarOf c)) (terminals c) .1 (Items.by-item (in-core (Canonical.goto Canonical.start (right-added c))))
 
-module _ {c w : List ℕ} {n k e : ℕ} {next : ℕ → ℕ → ℕ} {z : List ℕ} (h : Followed c w n k e next z) where
+module _ {c w : List ℕ} {n k : ℕ} {next : ℕ → ℕ → ℕ} {z : List ℕ} (h : Followed c w n k next z) where
   to : {q m v : ℕ} → Acts c w z k next q m v → Action (grammarOf c) next q m v
   to (Act.shifts a b nz) = Action.shifts b nz
   to {q} {m} (Act.reduces r b l) = Action.reduces r b (look-is h r b q m .0 l)

@@ -11,7 +11,7 @@ use Rattle.grammar.proofs.CardLaws.{right-length}
 use Rattle.lr.specs.Relations
 use Rattle.lr.specs.Relations.{Transition}
 use Rattle.lr.proofs.ItemLaws.{drop-next, symbols-drop}
-use Rattle.transitions.specs.Area.{leavesOf, nonterminalOf, nullablesOf}
+use Rattle.transitions.specs.Area.{leavesOf, nonterminalOf, shortestOf}
 use Rattle.transitions.specs.Occurrences.{symbolAt, Nullable}
 use Rattle.relations.specs.Edge.{Edge}
 use Rattle.relations.specs.declared.Relation.the-variants as relation
@@ -21,7 +21,7 @@ use Rattle.bridge.proofs.RightSides.{right-symbol, dot-below, dot-symbo
 use Rattle.bridge.proofs.Nullability.{nullable-empty, all-empty, empty-all, empty-one}
 use Rattle.bridge.proofs.LeadsLaws.{leads-is}
 
-module _ {c w : List ℕ} {n k e : ℕ} {next : ℕ → ℕ → ℕ} {z : List ℕ} (h : Followed c w n k e next z) where
+module _ {c w : List ℕ} {n k : ℕ} {next : ℕ → ℕ → ℕ} {z : List ℕ} (h : Followed c w n k next z) where
   -- a nonterminal transition is listed
   pub listed-at : (u : Transition) → terminals c ≤ u .symbol → next (u .state) (u .symbol) ≢ 0 → (j : ℕ) × (j < k) × (transitionOf w j ≡ u)
   listed-at u l nz = let t = h .listed .listed (u .state) (u .symbol) l nz in (t .0, t .1, ap₂ (λ (p x : ℕ). record { state = p; symbol = x }) (t .2) (t .3))
@@ -71,7 +71,7 @@ module _ {c w : List ℕ} {n k e : ℕ} {next : ℕ → ℕ → ℕ} {z : List �
         right = split-at (rightOf c (r .production)) (r .dot) 0 l ∙ ap (λ (x : ℕ). front ++ x ∷ behind) (right-symbol c (r .production) b (r .dot) (r .occurs .within) ∙ r .symbol);
         nullable = all-empty h
             (symbols-drop (grammarOf c) (card-formed (h .stated)) (card-productive (h .stated)) (suc (r .dot)) (card-formed (h .stated) .right-symbols (r .production) b))
-            (list-all c (r .production) b (Nullable c (nullablesOf w)) (suc (r .dot)) behind refl (r .occurs .tail));
+            (list-all c (r .production) b (Nullable c (shortestOf w)) (suc (r .dot)) behind refl (r .occurs .tail));
         leads = leads-is (h .stated) (h .listed) (r .production) b (leavesOf w j) (leavesOf w i) (r .dot) (rw (r .left) (h .listed .some j hj)) front (drop (r .dot) (rightOf c (r .production)))
             (sym (take-append-drop (r .dot) (rightOf c (r .production)))) (length-take-le (r .dot) (rightOf c (r .production)) (omega arith)) .0 (r .leads);
         left = sym (r .left);
@@ -94,7 +94,7 @@ module _ {c w : List ℕ} {n k e : ℕ} {next : ℕ → ℕ → ℕ} {z : List �
                     production = r .below;
                     within = dot-below c (r .production) (r .below) d at-dot;
                     nonterminal = rw symbol (h .listed .ordered .low i hi);
-                    tail = all-list c (r .production) (r .below) (Nullable c (nullablesOf w)) (suc d) (drop-next d (rightOf c (r .production)) at-dot) (empty-all h (r .nullable));
+                    tail = all-list c (r .production) (r .below) (Nullable c (shortestOf w)) (suc d) (drop-next d (rightOf c (r .production)) at-dot) (empty-all h (r .nullable));
                   };
               symbol = symbol;
               left = sym (r .left);

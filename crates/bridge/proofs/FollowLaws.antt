@@ -51,7 +51,7 @@ module _ {A : Type 0} (node : ℕ → A) (k : ℕ) (E : ℕ → ℕ → Type 0) 
       go : Union R S (node i) m → Join E F i m
       go (union s f) = down s f i h refl
 
-module _ {c w : List ℕ} {n k e : ℕ} {next : ℕ → ℕ → ℕ} {z : List ℕ} (h : Followed c w n k e next z) where
+module _ {c w : List ℕ} {n k : ℕ} {next : ℕ → ℕ → ℕ} {z : List ℕ} (h : Followed c w n k next z) where
   direct-is : (i m : ℕ) → i < k → Has (getD (h .begun) i 0) m ↔ Relations.Direct (grammarOf c) next (transitionOf w i) m
   direct-is i m l = (λ b. to (h .direct i l .only m b), λ d. h .direct i l .all m (from d))
     where

@@ -20,7 +20,7 @@ use Rattle.bridge.specs.Premises.{Stated}
 use Rattle.bridge.proofs.Numbering.{automaton}
 use Rattle.bridge.proofs.RightSides.{dot-symbol}
 
-module _ {c w : List ℕ} {n k e : ℕ} {next : ℕ → ℕ → ℕ} (s : Stated c n next) (listed : Data c w n k e next) (r : ℕ) (h : r < productions c) where
+module _ {c w : List ℕ} {n k : ℕ} {next : ℕ → ℕ → ℕ} (s : Stated c n next) (listed : Data c w n k next) (r : ℕ) (h : r < productions c) where
   path-walk : {d q i p : ℕ} → Path (Enters w) (symbolAt c r) d q i p → (l β : List ℕ) → drop i (rightOf c r) ≡ l ++ β → d ≡ i + length l → walk next p l ≡ q
   path-walk (here a k) [] β e o = k
   path-walk (here a k) (x ∷ l) β e o = absurd (omega arith)

@@ -1,16 +1,15 @@
 -- What the maker knows of a card when its states are numbered, and when the sets of its transitions are complete.
-use Prim.Native.Nat.{ℕ, _+_, _≤_, _<_}
+use Prim.Native.Nat.{ℕ, _≤_, _<_}
 use mathlib.Core.Path.{_≡_}
 use mathlib.Core.Logic.{_≢_}
-use mathlib.Core.List.{List, [], _∷_}
+use mathlib.Core.List.{List}
 use lib.ListN.{getD}
-use Rattle.sets.specs.Bit.{bit, Tells}
-use Rattle.grammar.specs.Grammar.{Derives}
 use Rattle.grammar.specs.Useful.{Productive, Nonterminal}
-use Rattle.grammar.specs.Card.{terminals, nonterminals, grammarOf, formFault}
+use Rattle.grammar.specs.Shortest.{ShortestLengths}
+use Rattle.grammar.specs.Card.{nonterminals, grammarOf, formFault}
 use Rattle.lr.specs.States.{States}
 use Rattle.lr.specs.Relations.{Transition}
-use Rattle.transitions.specs.Area.{leavesOf, nonterminalOf}
+use Rattle.transitions.specs.Area.{leavesOf, nonterminalOf, shortestOf}
 use Rattle.transitions.specs.Data.{Data, Holds, Direct}
 use Rattle.relations.specs.Edge.{Edge}
 use Rattle.relations.specs.declared.Relation.the-variants as relation
@@ -29,11 +28,11 @@ pub record Stated (c : List ℕ) (n : ℕ) (next : ℕ → ℕ → ℕ) : Type 0
 abbrev pub transitionOf : List ℕ → ℕ → Transition
 transitionOf w i = record { state = leavesOf w i; symbol = nonterminalOf w i }
 
--- the area w holds the card's k nonterminal transitions, e its nullable nonterminals, and z the sets of the transitions after both walks
-pub record Followed (c w : List ℕ) (n k e : ℕ) (next : ℕ → ℕ → ℕ) (z : List ℕ) : Type 0 where
+-- the area w holds the card's k nonterminal transitions and the shortest lengths of its nonterminals, and z the sets of the transitions after both walks
+pub record Followed (c w : List ℕ) (n k : ℕ) (next : ℕ → ℕ → ℕ) (z : List ℕ) : Type 0 where
   pub stated : Stated c n next
-  pub listed : Data c w n k e next
-  pub nullable : (j : ℕ) → j < nonterminals c → Tells (bit e j) (Derives (grammarOf c) ((terminals c + j) ∷ []) [])
+  pub listed : Data c w n k next
+  pub shortest : ShortestLengths (grammarOf c) (nonterminals c) (shortestOf w)
   -- the area before the walks, and between them
   pub begun : List ℕ
   pub between : List ℕ

@@ -2,16 +2,15 @@
 use mathlib.Core.Path.{_≡_, refl, sym, ap, _∙_}
 use mathlib.Core.Bool.{true, false}
 use mathlib.Core.Logic.{_↔_}
-use mathlib.Core.List.{List, [], _∷_, _++_}
+use mathlib.Core.List.{List, [], _++_}
 use Prim.Native.Nat.{ℕ, _+_, _-_, _≤_, _<_}
 use native.Mathlib.Omega.{arith}
 use lib.ListN.{length, getD, drop, replicate, length-drop}
 use lib.Seq.{ext-getD, getD-drop}
 use borrow.Author.Tests.{lt-ltb}
 use Rattle.sets.specs.Lists.{covered}
-use Rattle.sets.specs.Bit.{bit, Tells}
-use Rattle.grammar.specs.Grammar.{Derives}
 use Rattle.grammar.specs.Useful.{LowestUseless}
+use Rattle.grammar.specs.Shortest.{ShortestLengths}
 use Rattle.grammar.specs.Card.{terminals, nonterminals, productions, leftOf, lengthOf, formFault, grammarOf}
 use Rattle.grammar.proofs.CardLaws.{right-length}
 use Rattle.tables.specs.Layout.{build}
@@ -29,7 +28,7 @@ use Rattle.lalr.proofs.Main.{card-answer}
 use Rattle.states.specs.States.{transition}
 use Rattle.transitions.specs.Places.{transitionLimit}
 use Rattle.transitions.specs.Next.{nextOf, Numbered, transitionCount}
-use Rattle.transitions.specs.Area.{enteringOf}
+use Rattle.transitions.specs.Area.{enteringOf, shortestOf}
 use Rattle.transitions.specs.Data.{Data}
 use Rattle.tables.specs.Conflicts.{Conflict}
 use Rattle.areas.specs.Areas.{tableSize, wordsSize, halvesSize}
@@ -103,17 +102,17 @@ module _ (t₀ z₀ w₀ c : List ℕ) where
       twelve k e h = judged t₀ z₀ w₀ c o f (refused 12) (wide n (nextOf c t n) u (stated .states) few (rw (transition-count c (nextOf c t n) n) at (rw e at h)))
 
       -- the work area holds the entering symbols
-      module _ (w : List ℕ) (k e : ℕ) (data′ : Data c w n k e (nextOf c t n)) where
+      module _ (w : List ℕ) (k : ℕ) (data′ : Data c w n k (nextOf c t n)) where
         entering-is : (q x : ℕ) → q < n → (enteringOf w q ≡ x) ↔ lr.Entered (grammarOf c) (nextOf c t n) q x
         entering-is = entries (grammarOf c) (stated .states) (enteringOf w) (data′ .start) (λ p x h nz. data′ .goes p x (nextOf c t n p x) (record { target = refl; some = nz }) .symbol)
 
         pub entering-below : (q : ℕ) → q < n → enteringOf w q < terminals c + nonterminals c
         entering-below q h = entered-below (grammarOf c) (card-formed stated) (card-productive stated) (entering-is q (enteringOf w q) h .0 refl)
 
-      module _ (w z₁ z : List ℕ) (k e : ℕ) (count : k ≡ transitionCount c (nextOf c t n) n) (small : k ≤ transitionLimit) (data′ : Data c w n k e (nextOf c t n))
-          (null : (j : ℕ) → j < nonterminals c → Tells (bit e j) (Derives (grammarOf c) ((terminals c + j) ∷ []) [])) (co : Complete c w n k (nextOf c t n) z₁ z) where
-        followed : Followed c w n k e (nextOf c t n) z
-        followed = record { stated = stated; listed = data′; nullable = null; begun = co .begun; between = co .walks .between; direct = co .direct; reads = co .walks .first .sets; includes = co .walks .second .sets }
+      module _ (w z₁ z : List ℕ) (k : ℕ) (count : k ≡ transitionCount c (nextOf c t n) n) (small : k ≤ transitionLimit) (data′ : Data c w n k (nextOf c t n))
+          (shortest : ShortestLengths (grammarOf c) (nonterminals c) (shortestOf w)) (co : Complete c w n k (nextOf c t n) z₁ z) where
+        followed : Followed c w n k (nextOf c t n) z
+        followed = record { stated = stated; listed = data′; shortest = shortest; begun = co .begun; between = co .walks .between; direct = co .direct; reads = co .walks .first .sets; includes = co .walks .second .sets }
 
         sized : Sized (grammarOf c) n (nextOf c t n)
         sized = record { useful = u; states = stated .states; few = few; narrow = rw (transition-count c (nextOf c t n) n) at (rw count at small) }
@@ -141,7 +140,7 @@ module _ (t₀ z₀ w₀ c : List ℕ) where
                 lefts = λ r h. built-left n (terminals c) (nonterminals c) (productions c) (leftOf c) (lengthOf c) entered cell r h;
                 lengths = λ r h. built-length n (terminals c) (nonterminals c) (productions c) (leftOf c) (lengthOf c) entered cell r h ∙ sym (right-length c r h);
                 entered = λ q x h.
-                    rw (built-entered n (terminals c) (nonterminals c) (productions c) (leftOf c) (lengthOf c) entered cell q h, symbols q h) (entering-is w k e data′ q x h);
+                    rw (built-entered n (terminals c) (nonterminals c) (productions c) (leftOf c) (lengthOf c) entered cell q h, symbols q h) (entering-is w k data′ q x h);
                 terminals = λ q m hq hm.
                     rw (built-cell n (terminals c) (nonterminals c) (productions c) (leftOf c) (lengthOf c) entered cell q m hq (omega arith)) (cell-is followed q m (cell q m) (cells q m hq hm));
                 nonterminals = λ q x hq hx.

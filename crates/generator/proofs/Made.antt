@@ -1,12 +1,13 @@
 -- The answers of `make`, from what each phase leaves.
 use mathlib.Core.Path.{_≡_, refl, ap, _∙_}
-use mathlib.Core.List.{List, [], _∷_}
+use mathlib.Core.List.{List, []}
 use Prim.Native.Nat.{ℕ, _≤_, _<_}
 use native.Mathlib.Omega.{arith}
-use lib.ListN.{length}
+use lib.ListN.{length, getD}
 use Rattle.sets.specs.Lists.{covered}
-use Rattle.grammar.specs.Card.{terminals, formFault, grammarOf}
-use Rattle.grammar.specs.Grammar.{Derives}
+use Rattle.grammar.specs.Card.{terminals, nonterminals, formFault, grammarOf}
+use Rattle.grammar.specs.Shortest.{ShortestLengths}
+use Rattle.grammar.proofs.CardLaws.{well-formed}
 use Rattle.areas.specs.Areas.{tableSize, wordsSize, halvesSize}
 use Rattle.lr.proofs.ItemLaws.{all-productive}
 use Rattle.lr.specs.States.{States, MoreStates}
@@ -14,13 +15,13 @@ use Rattle.lalr.specs.Answer.{made, refused, conflict}
 use Rattle.lalr.specs.ComputedGenerator.{generated}
 use Rattle.lalr.specs.Meaning.{AllUseful}
 use Rattle.lalr.specs.Demand2.{Room}
-use Rattle.nonterminals.specs.Sets.{NonterminalSet}
 use Rattle.states.specs.States.{transition}
 use Rattle.states.specs.States as states
 use Rattle.automaton.specs.Outcome.{Outcome, few, many}
 use Rattle.automaton.proofs.Outcomes.{outcome}
 use Rattle.transitions.specs.Places.{transitionLimit}
 use Rattle.transitions.specs.Next.{nextOf, Numbered}
+use Rattle.transitions.specs.Area.{shortestOf}
 use Rattle.transitions.specs.Data as lists
 use Rattle.lookaheads.specs.Outcome.{Stage, Filled}
 use Rattle.lookaheads.specs.declared.Clash.the-variants.{Free, At}
@@ -65,7 +66,7 @@ module _ (t₀ z₀ w₀ c : List ℕ) (o : Room t₀ z₀ w₀) (f : formFault 
       pub numbered-states : Numbered c n (nextOf c t₁ n)
       numbered-states = numbers-states t₀ z₀ w₀ c o f u t₁ n small (found c t₁ n after small)
 
-      module _ (w₂ : List ℕ) (k e : ℕ) (l : lists.Built c w₁ w₂ n k e (nextOf c t₁ n)) where
+      module _ (w₂ : List ℕ) (k : ℕ) (e : List ℕ) (l : lists.Built c w₁ w₂ n k e (nextOf c t₁ n)) where
         same-halves : covered halvesSize [] w₂ ≡ covered halvesSize [] w₀
         same-halves = covered-same halvesSize [] w₀ w₂ (l .long ∙ lw) (λ i h. l .rest i (omega arith) ∙ b .words-kept .kept i (omega arith))
 
@@ -86,7 +87,7 @@ module _ (t₀ z₀ w₀ c : List ℕ) (o : Room t₀ z₀ w₀) (f : formFault 
                 numbered = numbered-states;
                 shifts = co .shifts;
                 terminals = λ i m h g. sets-terminals c w₂ n k (nextOf c t₁ n) z₁ z₂ (l .holds narrow .ordered) co i m h g;
-                entering = entering-below t₀ z₀ w₀ c o f u t₁ n small (found c t₁ n after small) w₂ k e (l .holds narrow);
+                entering = entering-below t₀ z₀ w₀ c o f u t₁ n small (found c t₁ n after small) w₂ k (l .holds narrow);
                 table-long = omega (arith, lt, o .table);
                 words-long = omega (arith, co .long, lz, o .words);
                 halves-long = omega (arith, l .long, lw, o .halves);
@@ -95,24 +96,27 @@ module _ (t₀ z₀ w₀ c : List ℕ) (o : Room t₀ z₀ w₀) (f : formFault 
           words-left : covered wordsSize [] z₂ ≡ covered wordsSize [] z₀
           words-left = covered-same wordsSize [] z₀ z₂ (co .long ∙ lz) (λ i h. co .beyond i h ∙ b .sets-kept .kept i (omega arith))
 
-          module _ (null : NonterminalSet (grammarOf c) (λ x. Derives (grammarOf c) (x ∷ []) []) e) {t z w : List ℕ} where
+          module _ (lengths : ShortestLengths (grammarOf c) 60 (λ j. getD e j 0)) where
+            short : ShortestLengths (grammarOf c) (nonterminals c) (shortestOf w₂)
+            short j h = let b : j < 60 = omega (arith, well-formed c f .limits .nonterminals-to) in rw (l .lengths j b) (lengths j b)
+
             -- a table
-            pub table-met : Filled c t₁ w₂ z₂ n t w z Free → GeneratesAs (generated t₀ z₀ w₀ c) Table t z w
-            table-met p =
+            pub table-met : {t z w : List ℕ} → Filled c t₁ w₂ z₂ n t w z Free → GeneratesAs (generated t₀ z₀ w₀ c) Table t z w
+            table-met {t} {z} {w} p =
                 let T = p .outcome k (l .holds narrow .ordered) in
                 let st = found c t₁ n after small in
                 covers-all t₀ z₀ w₀ c made Table t z w
-                (table-made t₀ z₀ w₀ c o f u t₁ n small st w₂ z₁ z₂ k e (l .count) narrow (l .holds narrow) (null .tells) co (T .entered) (T .cell) (T .entries) (T .actions) (T .nexts)) refl refl
-                (T .area ∙ same-table _ ∙ ap (λ (x : List ℕ). covered tableSize x t₀) (the-table t₀ z₀ w₀ c o f u t₁ n small st w₂ z₁ z₂ k e (l .count) narrow (l .holds narrow) (null .tells) co (T .entered) (T .cell) (T .entries) (T .actions) (T .nexts)))
+                (table-made t₀ z₀ w₀ c o f u t₁ n small st w₂ z₁ z₂ k (l .count) narrow (l .holds narrow) short co (T .entered) (T .cell) (T .entries) (T .actions) (T .nexts)) refl refl
+                (T .area ∙ same-table _ ∙ ap (λ (x : List ℕ). covered tableSize x t₀) (the-table t₀ z₀ w₀ c o f u t₁ n small st w₂ z₁ z₂ k (l .count) narrow (l .holds narrow) short co (T .entered) (T .cell) (T .entries) (T .actions) (T .nexts)))
                 (p .words ∙ words-left)
                 (p .halves ∙ same-halves)
 
             -- refusal 13
-            pub conflict-met : (q m v x : ℕ) → Filled c t₁ w₂ z₂ n t w z (At q m v x) → GeneratesAs (generated t₀ z₀ w₀ c) (Conflict q m v x) t z w
-            conflict-met q m v x p =
+            pub conflict-met : {t z w : List ℕ} (q m v x : ℕ) → Filled c t₁ w₂ z₂ n t w z (At q m v x) → GeneratesAs (generated t₀ z₀ w₀ c) (Conflict q m v x) t z w
+            conflict-met {t} {z} {w} q m v x p =
                 let T = p .outcome k (l .holds narrow .ordered) in
                 covers-all t₀ z₀ w₀ c (conflict q m v x) (Conflict q m v x) t z w
-                (thirteen t₀ z₀ w₀ c o f u t₁ n small (found c t₁ n after small) w₂ z₁ z₂ k e (l .count) narrow (l .holds narrow) (null .tells) co q m v x (T .0)) refl refl
+                (thirteen t₀ z₀ w₀ c o f u t₁ n small (found c t₁ n after small) w₂ z₁ z₂ k (l .count) narrow (l .holds narrow) short co q m v x (T .0)) refl refl
                 (T .1 ∙ same-table [])
                 (p .words ∙ words-left)
                 (p .halves ∙ same-halves)

@@ -18,8 +18,8 @@ use Rattle.completion.proofs.Laws.{reaches-inside}
 use Rattle.digraph.specs.Walked.{Walked, at}
 use Rattle.generator.specs.Phases.{Complete}
 
-pub walk-ready : (c w : List ℕ) (n k e r : ℕ) (next : ℕ → ℕ → ℕ) → Data c w n k e next → r ≡ k → Ordered c w r × (r ≤ transitionLimit)
-walk-ready c w n k e r next d h = rw h (d .ordered, d .ordered .few)
+pub walk-ready : (c w : List ℕ) (n k r : ℕ) (next : ℕ → ℕ → ℕ) → Data c w n k next → r ≡ k → Ordered c w r × (r ≤ transitionLimit)
+walk-ready c w n k r next d h = rw h (d .ordered, d .ordered .few)
 
 pub both-walks : (c w : List ℕ) (n k r : ℕ) (next : ℕ → ℕ → ℕ) (z₀ z₁ z₂ z₃ : List ℕ) → r ≡ k → n ≤ 256 → Begun c w n k next z₀ z₁ → Walked (Edge relation.Reads c w r) r z₁ z₂ → Walked (Edge relation.Includes c w r) r z₂ z₃ → Complete c w n k next z₀ z₃
 both-walks c w n k r next z₀ z₁ z₂ z₃ h few b x y =

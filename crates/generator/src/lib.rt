@@ -1,7 +1,7 @@
 // Makes the parse table of a grammar card, or refuses it.
 ghost use mathlib.Core.Path.{_≡_};
 ghost use mathlib.Core.List.{[]};
-ghost use Prim.Native.Nat.{ℕ, _≤_, _<_};
+ghost use Prim.Native.Nat.{_≤_, _<_};
 ghost use lib.ListN.{length};
 ghost use Rattle.sets.specs.Lists.{covered};
 ghost use Rattle.grammar.specs.Card.{formFault, grammarOf};
@@ -62,7 +62,7 @@ fn clear(t: &mut [u16], z: &mut [u64], w: &mut [u32])
 
 // Direct reads, the walk along reads, then along includes.
 fn walk(c: &[u16], t: &[u16], w: &[u32], z: &mut [u64], n: u32, k: u32)
-    requires { ⌜ Numbered (now c) n (nextOf (now c) (now t) n) × (wordsSize ≤ length (now z)) × ((e : ℕ) × Data (now c) (now w) n k e (nextOf (now c) (now t) n)) ⌝ }
+    requires { ⌜ Numbered (now c) n (nextOf (now c) (now t) n) × (wordsSize ≤ length (now z)) × Data (now c) (now w) n k (nextOf (now c) (now t) n) ⌝ }
     ensures { λ _. ⌜ Complete (now (c .entry)) (now (w .entry)) n k (nextOf (now (c .entry)) (now (t .entry)) n) (now (z .entry)) (now (z .exit)) ⌝ }
 {
     transition_lists::direct(c, t, w, z, n, k);
@@ -81,8 +81,8 @@ fn make(c: &[u16], t: &mut [u16], z: &mut [u64], w: &mut [u32]) -> Answer
         clear(t, z, w);
         return Answer::ManyStates;
     }
-    let e = nonterminals::nullable(c);
-    let k = transition_lists::build(c, t, w, n as u32, e);
+    let e = nonterminals::shortest(c);
+    let k = transition_lists::build(c, t, w, n as u32, &e);
     if transitions::LIMIT < k {
         clear(t, z, w);
         return Answer::ManyTransitions;

@@ -2,3 +2,4 @@ pub mod CardLaws
 pub mod Yield
 pub mod Derive
 pub mod Closed
+pub mod ShortestLaws

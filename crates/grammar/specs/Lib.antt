@@ -1,4 +1,5 @@
 pub mod Grammar
 pub mod Card
 pub mod Useful
+pub mod Shortest
 pub mod Prefix

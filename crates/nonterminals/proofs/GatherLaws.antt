@@ -1,6 +1,6 @@
 -- A set that the rounds leave: only what is meant is in it, and all of it.
 use mathlib.Core.Path.{_≡_}
-use mathlib.Core.List.{List, [], _∷_}
+use mathlib.Core.List.{List}
 use mathlib.Core.Logic.{⊎-elim}
 use Prim.Native.Nat.{ℕ, _+_, _-_, _^_, _≤_, _<_}
 use native.Mathlib.Omega.{arith}
@@ -10,33 +10,30 @@ use lib.Bits.{bitOr}
 use Rattle.sets.specs.Bit.{bit, Has, Within}
 use Rattle.sets.proofs.BitLaws.{bit-bound}
 use Rattle.sets.proofs.HasLaws.{has-none, has-one, one-has, has-or, or-has-l, or-has-r, lt-or-ge, no-bit}
-use Rattle.grammar.specs.Grammar.{Symbols, Derives, Formed}
+use Rattle.grammar.specs.Grammar.{Symbols, Formed}
 use Rattle.grammar.specs.Card.{terminals, nonterminals, productions, leftOf, rightOf, grammarOf, formFault}
 use Rattle.grammar.specs.Useful
 use Rattle.grammar.proofs.CardLaws.{well-formed, formed}
-use Rattle.grammar.proofs.Closed.{All, none, more, nullable-left, productive-left, productive-terminal, reachable-start, reachable-right, nullable-least, productive-least, reachable-least}
+use Rattle.grammar.proofs.Closed.{All, none, more, productive-left, productive-terminal, reachable-start, reachable-right, productive-least, reachable-least}
 use Rattle.nonterminals.specs.declared.Kind.{Kind}
-use Rattle.nonterminals.specs.declared.Kind.the-variants.{Nullable, Productive, Reachable}
+use Rattle.nonterminals.specs.declared.Kind.the-variants.{Productive, Reachable}
 use Rattle.nonterminals.specs.Sets.{NonterminalSet}
 use Rattle.nonterminals.specs.Gathering.{Means, wordOf, joinOf, needsOf, givesOf, Sound, Round, Settled}
 use Rattle.nonterminals.proofs.WordLaws.{within-le, word-terminal, word-nonterminal, join-all, all-join}
 
-module _ (c : List ℕ) (t v : ℕ) where
-  -- symbol x is in v, a terminal where t is
+module _ (c : List ℕ) (v : ℕ) where
+  -- symbol x is in v, as each terminal is
   abbrev In : ℕ → Type 0
-  In x = Within (wordOf c t x) v
+  In x = Within (wordOf c x) v
 
   has-in : (x : ℕ) → terminals c ≤ x → In x → Has v (x - terminals c)
-  has-in x h i = i (x - terminals c) (rw (word-nonterminal c t x h) (one-has (x - terminals c)))
+  has-in x h i = i (x - terminals c) (rw (word-nonterminal c x h) (one-has (x - terminals c)))
 
   in-has : (x : ℕ) → terminals c ≤ x → Has v (x - terminals c) → In x
-  in-has x h i m e = rw (← has-one (x - terminals c) m (rw (word-nonterminal c t x h) at e)) i
+  in-has x h i m e = rw (← has-one (x - terminals c) m (rw (word-nonterminal c x h) at e)) i
 
-  in-terminal : (x : ℕ) → x < terminals c → Within t v → In x
-  in-terminal x h i = rw (word-terminal c t x h) i
-
-  terminal-in : (x : ℕ) → x < terminals c → In x → Within t v
-  terminal-in x h i = rw (word-terminal c t x h) at i
+  in-terminal : (x : ℕ) → x < terminals c → In x
+  in-terminal x h m e = absurd (has-none m (rw (word-terminal c x h) at e))
 
 module _ (c : List ℕ) (fault : formFault c ≡ 0) where
   f : Formed (grammarOf c)
@@ -49,11 +46,11 @@ module _ (c : List ℕ) (fault : formFault c ≡ 0) where
     means-at : (v x : ℕ) → Sound c k v → terminals c ≤ x → Has v (x - terminals c) → Means (grammarOf c) k x
     means-at v x s h i = let e : terminals c + (x - terminals c) ≡ x = omega arith in rw e at (s (x - terminals c) i .1)
 
-    -- a string of which each symbol is in the set, and a terminal is meant where it may be
-    all-mean : (t v : ℕ) → Sound c k v → ((x : ℕ) → 0 < x → x < terminals c → Within t v → Means (grammarOf c) k x) → {l : List ℕ} → Symbols (terminals c + nonterminals c) l → All (In c t v) l → All (Means (grammarOf c) k) l
-    all-mean t v s h Symbols.none none = none
-    all-mean t v s h (Symbols.more {a = x} z b y) (more i a) =
-        more (⊎-elim (λ (m : x < terminals c). h x z m (terminal-in c t v x m i)) (λ (m : terminals c ≤ x). means-at v x s m (has-in c t v x m i)) (lt-or-ge x (terminals c))) (all-mean t v s h y a)
+    -- a string of which each symbol is in the set, where terminals are meant
+    all-mean : (v : ℕ) → Sound c k v → ((x : ℕ) → 0 < x → x < terminals c → Means (grammarOf c) k x) → {l : List ℕ} → Symbols (terminals c + nonterminals c) l → All (In c v) l → All (Means (grammarOf c) k) l
+    all-mean v s h Symbols.none none = none
+    all-mean v s h (Symbols.more {a = x} z b y) (more i a) =
+        more (⊎-elim (λ (m : x < terminals c). h x z m) (λ (m : terminals c ≤ x). means-at v x s m (has-in c v x m i)) (lt-or-ge x (terminals c))) (all-mean v s h y a)
 
     sound-or : (a b : ℕ) → Sound c k a → Sound c k b → Sound c k (bitOr a b)
     sound-or a b s r j e = ⊎-elim (λ i. s j i) (λ i. r j i) (has-or a b j e)
@@ -61,36 +58,32 @@ module _ (c : List ℕ) (fault : formFault c ≡ 0) where
     sound-none : Sound c k 0
     sound-none j e = absurd (has-none j e)
 
-    sound-word : (x : ℕ) → x < terminals c + nonterminals c → Means (grammarOf c) k x → Sound c k (wordOf c 0 x)
+    sound-word : (x : ℕ) → x < terminals c + nonterminals c → Means (grammarOf c) k x → Sound c k (wordOf c x)
     sound-word x b p j = ⊎-elim low high (lt-or-ge x (terminals c))
       where
-        low : x < terminals c → Has (wordOf c 0 x) j → (j < nonterminals c) × Means (grammarOf c) k (terminals c + j)
-        low m e = absurd (has-none j (rw (word-terminal c 0 x m) at e))
+        low : x < terminals c → Has (wordOf c x) j → (j < nonterminals c) × Means (grammarOf c) k (terminals c + j)
+        low m e = absurd (has-none j (rw (word-terminal c x m) at e))
 
-        high : terminals c ≤ x → Has (wordOf c 0 x) j → (j < nonterminals c) × Means (grammarOf c) k (terminals c + j)
+        high : terminals c ≤ x → Has (wordOf c x) j → (j < nonterminals c) × Means (grammarOf c) k (terminals c + j)
         high m e =
-            let q : x - terminals c ≡ j = has-one (x - terminals c) j (rw (word-nonterminal c 0 x m) at e) in
+            let q : x - terminals c ≡ j = has-one (x - terminals c) j (rw (word-nonterminal c x m) at e) in
             let o : terminals c + j ≡ x = omega arith in
             (omega arith, rw o p)
 
-    sound-join : {l : List ℕ} → Symbols (terminals c + nonterminals c) l → All (Means (grammarOf c) k) l → Sound c k (joinOf c 0 l)
+    sound-join : {l : List ℕ} → Symbols (terminals c + nonterminals c) l → All (Means (grammarOf c) k) l → Sound c k (joinOf c l)
     unfolding joinOf
     sound-join Symbols.none none = sound-none
-    sound-join (Symbols.more {a = x} {w = l} z b y) (more p a) = sound-or (wordOf c 0 x) (joinOf c 0 l) (sound-word x b p) (sound-join y a)
+    sound-join (Symbols.more {a = x} {w = l} z b y) (more p a) = sound-or (wordOf c x) (joinOf c l) (sound-word x b p) (sound-join y a)
 
   -- what a production adds is meant
   adds : (k : Kind) (v r : ℕ) → r < productions c → Sound c k v → Within (needsOf c k r) v → Sound c k (givesOf c k r)
   unfolding needsOf givesOf
-  adds Nullable v r h s n =
-      sound-word Nullable (leftOf c r) (f .left-below r h)
-      (nullable-left (grammarOf c) r h
-      (all-mean Nullable (2 ^ 63) v s (λ x z m i. absurd (let b = s 63 (i 63 (one-has 63)) .0 in omega (arith, few))) (f .right-symbols r h) (join-all c (2 ^ 63) v (rightOf c r) n)))
   adds Productive v r h s n =
       sound-word Productive (leftOf c r) (f .left-below r h)
-      (productive-left (grammarOf c) r h (all-mean Productive 0 v s (λ x z m i. productive-terminal (grammarOf c) x z m) (f .right-symbols r h) (join-all c 0 v (rightOf c r) n)))
+      (productive-left (grammarOf c) r h (all-mean Productive v s (λ x z m. productive-terminal (grammarOf c) x z m) (f .right-symbols r h) (join-all c v (rightOf c r) n)))
   adds Reachable v r h s n =
       sound-join Reachable (f .right-symbols r h)
-      (reachable-right (grammarOf c) r h (means-at Reachable v (leftOf c r) s (f .left-nonterminal r h) (has-in c 0 v (leftOf c r) (f .left-nonterminal r h) n)))
+      (reachable-right (grammarOf c) r h (means-at Reachable v (leftOf c r) s (f .left-nonterminal r h) (has-in c v (leftOf c r) (f .left-nonterminal r h) n)))
 
   -- ---- a round
 
@@ -123,10 +116,10 @@ module _ (c : List ℕ) (fault : formFault c ≡ 0) where
     round-less v u s t d = omega (arith, small v s, small u (t .sound), within-le v u (t .more), d)
 
     -- all that is meant is in v: then v is the set
-    whole : (t v : ℕ) → Sound c k v → ((x : ℕ) → Means (grammarOf c) k x → In c t v x) → NonterminalSet (grammarOf c) (Means (grammarOf c) k) v
-    whole t v s h =
+    whole : (v : ℕ) → Sound c k v → ((x : ℕ) → Means (grammarOf c) k x → In c v x) → NonterminalSet (grammarOf c) (Means (grammarOf c) k) v
+    whole v s h =
         record {
-          tells = λ j b. record { yes = λ e. s j e .1; so = λ m. let o : terminals c + j - terminals c ≡ j = omega arith in rw o at (has-in c t v (terminals c + j) (omega arith) (h (terminals c + j) m)) };
+          tells = λ j b. record { yes = λ e. s j e .1; so = λ m. let o : terminals c + j - terminals c ≡ j = omega arith in rw o at (has-in c v (terminals c + j) (omega arith) (h (terminals c + j) m)) };
           above = λ j b. no-bit (bit v j) (λ e. absurd (let l = s j e .0 in omega arith));
         }
 
@@ -136,22 +129,15 @@ module _ (c : List ℕ) (fault : formFault c ≡ 0) where
       let o : terminals c + j ≡ terminals c = omega arith in
       (omega (arith, f .start-nonterminal), rw o (reachable-start (grammarOf c)))
 
-  pub nullable-set : {v : ℕ} → Settled c Nullable 0 v → NonterminalSet (grammarOf c) (λ x. Derives (grammarOf c) (x ∷ []) []) v
-  unfolding needsOf givesOf
-  nullable-set {v} t =
-      whole Nullable (2 ^ 63) v (t .still .sound)
-      (λ x d. nullable-least (grammarOf c) (In c (2 ^ 63) v)
-      (λ r h a. in-has c (2 ^ 63) v (leftOf c r) (f .left-nonterminal r h) (has-in c 0 v (leftOf c r) (f .left-nonterminal r h) (t .still .all r h (all-join c (2 ^ 63) v a)))) d)
-
   pub productive-set : {v : ℕ} → Settled c Productive 0 v → NonterminalSet (grammarOf c) (Useful.Productive (grammarOf c)) v
   unfolding needsOf givesOf
   productive-set {v} t =
-      whole Productive 0 v (t .still .sound)
-      (λ x d. productive-least (grammarOf c) (In c 0 v) (λ r h a. t .still .all r h (all-join c 0 v a)) (λ a z h. in-terminal c 0 v a h (λ m e. absurd (has-none m e))) d)
+      whole Productive v (t .still .sound)
+      (λ x d. productive-least (grammarOf c) (In c v) (λ r h a. t .still .all r h (all-join c v a)) (λ a z h. in-terminal c v a h) d)
 
   pub reachable-set : {v : ℕ} → Settled c Reachable 1 v → NonterminalSet (grammarOf c) (Useful.Reachable (grammarOf c)) v
   unfolding needsOf givesOf
   reachable-set {v} t =
-      whole Reachable 0 v (t .still .sound)
-      (λ x d. reachable-least (grammarOf c) (In c 0 v) (λ r h i. join-all c 0 v (rightOf c r) (t .still .all r h i))
-      (in-has c 0 v (terminals c) (omega arith) (t .more (terminals c - terminals c) (rw (let o : terminals c - terminals c ≡ 0 = omega arith in o) (one-has 0)))) d)
+      whole Reachable v (t .still .sound)
+      (λ x d. reachable-least (grammarOf c) (In c v) (λ r h i. join-all c v (rightOf c r) (t .still .all r h i))
+      (in-has c v (terminals c) (omega arith) (t .more (terminals c - terminals c) (rw (let o : terminals c - terminals c ≡ 0 = omega arith in o) (one-has 0)))) d)

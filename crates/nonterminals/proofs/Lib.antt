@@ -1,3 +1,4 @@
 pub mod WordLaws
+pub mod LengthLaws
 pub mod GatherLaws
 pub mod UselessLaws

@@ -1,25 +1,22 @@
 -- The pass over the productions of the card, symbol by symbol from the end of each.
 use mathlib.Core.Path.{_≡_, refl, sym, ap, ap₂, _∙_, subst}
 use mathlib.Core.List.{List}
-use mathlib.Core.Bool.{Bool, true, false, not, true≢false}
 use mathlib.Core.Logic.{_⊎_, inl, inr, ⊎-elim}
 use Prim.Native.Nat.{ℕ, suc, _+_, _-_, _≤_, _<_}
 use native.Mathlib.Omega.{arith}
 use native.Mathlib.Nat.{eq-or-lt-of-le}
 use native.Mathlib.Numerals.{add-one}
-use lib.ListN.{length, getD}
-use borrow.Author.Tests.{not-true, not-false}
-use Rattle.sets.specs.Bit.{bit}
+use lib.ListN.{getD}
 use Rattle.sets.proofs.HasLaws.{lt-or-ge, eq-or}
 use Rattle.grammar.specs.Card.{terminals, nonterminals, productions, lengthOf, startOf, formFault}
 use Rattle.grammar.proofs.CardLaws.{well-formed}
-use Rattle.transitions.specs.Places.{startsAt, lastsAt, productionsAt, dotsAt, linksAt, nullablesAt, occurrencesAt, halvesEnd}
-use Rattle.transitions.specs.Area.{lastOf, productionOf, dotOf, linkOf}
-use Rattle.transitions.specs.Writes.{Stored, Nulled}
+use Rattle.transitions.specs.Places.{startsAt, lastsAt, productionsAt, dotsAt, linksAt, occurrencesAt, lengthsAt}
+use Rattle.transitions.specs.Area.{lastOf, productionOf, dotOf, linkOf, shortestOf}
+use Rattle.transitions.specs.Writes.{Stored, Measured}
 use Rattle.transitions.specs.Occurrences.{symbolAt, Nullable, Occurs, occurringOf, Latest}
-use Rattle.occurrences.specs.Stores.{Occurred}
-use Rattle.occurrences.specs.Gathers.{Gathered, Between, Started, Prepared}
-use Rattle.transitions.proofs.WriteLaws.{nullables-same}
+use Rattle.occurrences.specs.Stores.{Cleared, Occurred}
+use Rattle.occurrences.specs.Gathers.{Gathered, Between, Started, Collected, Prepared}
+use Rattle.transitions.proofs.WriteLaws.{shortest-same}
 
 pub latest-same : (c w w′ : List ℕ) (x m a : ℕ) → ((o : ℕ) → o < m → occurringOf c w′ o ≡ occurringOf c w o) → Latest c w x m a → Latest c w′ x m a
 latest-same c w w′ x m a same L = record {
@@ -33,7 +30,7 @@ unfolding occurringOf
 occurring-of c w w′ o a b = ap₂ (symbolAt c) a b
 
 -- nothing yet
-pub gather-start : (c : List ℕ) (e : ℕ) (w : List ℕ) → nonterminals c ≤ 60 → ((j : ℕ) → j < 60 → lastOf w j ≡ 0) → Gathered c e w 0 (lengthOf c 0) 0
+pub gather-start : (c : List ℕ) (e : ℕ → ℕ) (w : List ℕ) → nonterminals c ≤ 60 → ((j : ℕ) → j < 60 → lastOf w j ≡ 0) → Gathered c e w 0 (lengthOf c 0) 0
 gather-start c e w h z = record {
   most = omega arith;
   occurs = λ o l. absurd (let z : ⊥ = omega arith in z);
@@ -43,7 +40,7 @@ gather-start c e w h z = record {
 }
 
 -- the places of the occurrences are the same
-pub gather-same : (c : List ℕ) (e : ℕ) (w w′ : List ℕ) (r d m : ℕ) → ((i : ℕ) → lastsAt ≤ i → getD w′ i 0 ≡ getD w i 0) → Gathered c e w r d m → Gathered c e w′ r d m
+pub gather-same : (c : List ℕ) (e : ℕ → ℕ) (w w′ : List ℕ) (r d m : ℕ) → ((i : ℕ) → lastsAt ≤ i → getD w′ i 0 ≡ getD w i 0) → Gathered c e w r d m → Gathered c e w′ r d m
 gather-same c e w w′ r d m same G = record {
   most = G .most;
   occurs = λ o l. rw (same (productionsAt + o) (omega arith), same (dotsAt + o) (omega arith)) (G .occurs o l);
@@ -55,7 +52,7 @@ gather-same c e w w′ r d m same G = record {
     here : (o : ℕ) → occurringOf c w′ o ≡ occurringOf c w o
     here o = occurring-of c w w′ o (same (productionsAt + o) (omega arith)) (same (dotsAt + o) (omega arith))
 
-module _ (c : List ℕ) (e : ℕ) (w : List ℕ) (r d m : ℕ) (G : Gathered c e w r d m) where
+module _ (c : List ℕ) (e : ℕ → ℕ) (w : List ℕ) (r d m : ℕ) (G : Gathered c e w r d m) where
   -- no occurrence stands before the dot
   pub gather-stop : ((i : ℕ) → i < d → Occurs c e r i → ⊥) → Gathered c e w r 0 m
   gather-stop never = record {
@@ -119,7 +116,7 @@ module _ (c : List ℕ) (e : ℕ) (w : List ℕ) (r d m : ℕ) (G : Gathered c e
       }
 
   -- the next production
-  pub gather-next : d ≡ 0 → Gathered c e w (r + 1) (lengthOf c (r + 1)) m
+  gather-next : d ≡ 0 → Gathered c e w (r + 1) (lengthOf c (r + 1)) m
   unfolding startOf
   gather-next z = record {
     most = let a = G .most in rw add-one (let b : lengthOf c (suc r) - lengthOf c (suc r) ≡ 0 = omega arith in omega arith);
@@ -136,10 +133,10 @@ module _ (c : List ℕ) (e : ℕ) (w : List ℕ) (r d m : ℕ) (G : Gathered c e
 
 -- ---- a production from its end: the symbols from d on are nullable
 
-abbrev pub NullFrom : List ℕ → ℕ → ℕ → ℕ → Type 0
+abbrev pub NullFrom : List ℕ → (ℕ → ℕ) → ℕ → ℕ → Type 0
 NullFrom c e r d = (i : ℕ) → d ≤ i → i < lengthOf c r → Nullable c e (symbolAt c r i)
 
-module _ (c : List ℕ) (e r d : ℕ) (hd : 0 < d) (hl : d ≤ lengthOf c r) where
+module _ (c : List ℕ) (e : ℕ → ℕ) (r d : ℕ) (hd : 0 < d) (hl : d ≤ lengthOf c r) where
   -- before a symbol that is not nullable nothing occurs
   no-more : (Nullable c e (symbolAt c r (d - 1)) → ⊥) → (i : ℕ) → i < d - 1 → Occurs c e r i → ⊥
   no-more n i h O = n (O .tail (d - 1) (omega arith) (omega arith))
@@ -155,20 +152,18 @@ module _ (c : List ℕ) (e r d : ℕ) (hd : 0 < d) (hl : d ≤ lengthOf c r) whe
   pub tail-occurs : (x : ℕ) → r < productions c → NullFrom c e r d → x ≡ symbolAt c r (d - 1) → terminals c ≤ x → Occurs c e r (d - 1)
   tail-occurs x hr null ex h = record { production = hr; within = omega arith; nonterminal = rw (← ex) h; tail = λ i l g. null i (omega arith) g }
 
-  pub tail-last : (w : List ℕ) (m x t : ℕ) (b : Bool) → Gathered c e w r (d - 1) m → x ≡ symbolAt c r (d - 1) → t ≡ terminals c → b ≡ bit e (x - t) → not b ≡ true → Gathered c e w r 0 m
-  tail-last w m x t b G ex et eb nb =
-      gather-stop c e w r (d - 1) m G
-      (no-more (λ n. true≢false (sym (eb ∙ ap₂ (λ (y z : ℕ). bit e (y - z)) ex et ∙ n .member) ∙ not-true b nb)))
+  pub tail-last : (w : List ℕ) (m x t v : ℕ) → Gathered c e w r (d - 1) m → x ≡ symbolAt c r (d - 1) → t ≡ terminals c → v ≡ e (x - t) → 0 < v → Gathered c e w r 0 m
+  tail-last w m x t v G ex et ev some = gather-stop c e w r (d - 1) m G (no-more (λ n. let z : v ≡ 0 = ev ∙ ap₂ (λ (y z : ℕ). e (y - z)) ex et ∙ n .empty in omega arith))
 
-  pub tail-null : (x t : ℕ) (b : Bool) → NullFrom c e r d → x ≡ symbolAt c r (d - 1) → t ≡ terminals c → t ≤ x → b ≡ bit e (x - t) → not b ≡ false → NullFrom c e r (d - 1)
-  tail-null x t b null ex et h eb nb i l g =
+  pub tail-null : (x t v : ℕ) → NullFrom c e r d → x ≡ symbolAt c r (d - 1) → t ≡ terminals c → t ≤ x → v ≡ e (x - t) → v ≡ 0 → NullFrom c e r (d - 1)
+  tail-null x t v null ex et h ev none i l g =
       ⊎-elim
       (λ (z : d - 1 ≡ i). subst (λ (y : ℕ). Nullable c e (symbolAt c r y)) z here)
       (λ (z : d - 1 < i). null i (omega arith) g)
       (eq-or-lt-of-le l)
     where
       here : Nullable c e (symbolAt c r (d - 1))
-      here = record { nonterminal = rw (← ex, ← et) h; member = rw (← ex, ← et) (sym eb ∙ not-false b nb) }
+      here = record { nonterminal = rw (← ex, ← et) h; empty = rw (← ex, ← et) (sym ev ∙ none) }
 
 pub tail-inside : (d n : ℕ) → 0 < d → d ≤ n → d - 1 < n
 tail-inside d n h l = omega arith
@@ -191,11 +186,19 @@ between-here w = record { long = refl; low = λ i h. refl; high = λ i h. refl }
 -- ---- the starts
 
 module _ (c w w₁ : List ℕ) (r s i : ℕ) (ei : i ≡ r) (hr : r < 128) (S : Stored w (startsAt + i) s w₁) where
-  pub store-start : (e m : ℕ) → Gathered c e w r (lengthOf c r) m → Gathered c e w₁ r (lengthOf c r) m
-  store-start e m G = gather-same c e w w₁ r (lengthOf c r) m (λ j h. S .other j (λ z. omega arith)) G
-
-  pub store-high : (j : ℕ) → nullablesAt ≤ j → getD w₁ j 0 ≡ getD w j 0
+  pub store-high : (j : ℕ) → occurrencesAt ≤ j → getD w₁ j 0 ≡ getD w j 0
   store-high j h = S .other j (λ z. omega arith)
+
+  -- the lengths stay those of w₀
+  module _ (w₀ : List ℕ) (high : (j : ℕ) → occurrencesAt ≤ j → getD w j 0 ≡ getD w₀ j 0) where
+    store-lengths : shortestOf w₁ ≡ shortestOf w₀
+    store-lengths = shortest-same w₀ w₁ (λ j h. store-high j (omega arith) ∙ high j (omega arith))
+
+    pub store-start : (m : ℕ) → Gathered c (shortestOf w₀) w r (lengthOf c r) m → Gathered c (shortestOf w₁) w₁ r (lengthOf c r) m
+    store-start m G = rw store-lengths (gather-same c (shortestOf w₀) w w₁ r (lengthOf c r) m (λ j h. S .other j (λ z. omega arith)) G)
+
+    pub store-tail : (w₂ : List ℕ) (m : ℕ) → Gathered c (shortestOf w₁) w₂ r 0 m → Gathered c (shortestOf w₀) w₂ (r + 1) (lengthOf c (r + 1)) m
+    store-tail w₂ m G = rw store-lengths at (gather-next c (shortestOf w₁) w₂ r 0 m G refl)
 
   pub started-more : (w₂ : List ℕ) → s ≡ startOf c r → Between w₁ w₂ → Started c w r → Started c w₂ (r + 1)
   started-more w₂ es B T = record {
@@ -206,34 +209,49 @@ module _ (c w w₁ : List ℕ) (r s i : ℕ) (ei : i ≡ r) (hr : r < 128) (S : 
         (eq-or-lt-of-le (let v : u ≤ r = omega arith in v));
   }
 
-pub gather-few : (c : List ℕ) (e : ℕ) (w : List ℕ) (m : ℕ) → formFault c ≡ 0 → Gathered c e w (productions c) (lengthOf c (productions c)) m → m ≤ 512
+gather-few : (c : List ℕ) (e : ℕ → ℕ) (w : List ℕ) (m : ℕ) → formFault c ≡ 0 → Gathered c e w (productions c) (lengthOf c (productions c)) m → m ≤ 512
 gather-few c e w m ff G = let F = well-formed c ff in let a = G .most in omega (arith, F .sum, F .limits .symbols-to)
 
-pub gather-end : (c : List ℕ) (e : ℕ) (w : List ℕ) (r p m : ℕ) → p ≡ productions c → r ≤ p → p ≤ r → Gathered c e w r (lengthOf c r) m × Started c w r → Gathered c e w (productions c) (lengthOf c (productions c)) m × Started c w (productions c)
+pub gather-end : (c : List ℕ) (e : ℕ → ℕ) (w : List ℕ) (r p m : ℕ) → p ≡ productions c → r ≤ p → p ≤ r → Gathered c e w r (lengthOf c r) m × Started c w r → Gathered c e w (productions c) (lengthOf c (productions c)) m × Started c w (productions c)
 gather-end c e w r p m ep h g G = let z : r ≡ productions c = omega arith in rw z at G
 
 -- ---- all of it
 
-module _ (c : List ℕ) (e : ℕ) (w₀ w : List ℕ) (m : ℕ) {w₁ w′ : List ℕ} (ff : formFault c ≡ 0) (few : m ≤ 512) (N : Nulled w e w₁) (M : Stored w₁ occurrencesAt m w′) where
-  same : (i : ℕ) → i < nullablesAt → getD w′ i 0 ≡ getD w i 0
-  same i h = M .other i (λ z. omega arith) ∙ N .low i h
+module _ (c e w₀ : List ℕ) {w₁ w₂ w₃ w′ : List ℕ} (m : ℕ) (ff : formFault c ≡ 0) (E : Measured w₀ e 60 w₁) (Z : Cleared w₁ lastsAt productionsAt w₂) (G : Collected c w₂ w₃ m) (M : Stored w₃ occurrencesAt m w′) where
+  few : m ≤ 512
+  few = gather-few c (shortestOf w₂) w₃ m ff (G .gathered)
 
-  here : (o : ℕ) → o < m → occurringOf c w′ o ≡ occurringOf c w o
-  here o h = occurring-of c w w′ o (same (productionsAt + o) (omega arith)) (same (dotsAt + o) (omega arith))
+  production : (o : ℕ) → o < m → productionOf w′ o ≡ productionOf w₃ o
+  production o h = M .other (productionsAt + o) (λ z. omega (arith, few))
 
-  pub prepared : length w ≡ length w₀ → ((i : ℕ) → halvesEnd ≤ i → getD w i 0 ≡ getD w₀ i 0) → Gathered c e w (productions c) (lengthOf c (productions c)) m → Started c w (productions c) → Prepared c e w₀ w′
-  prepared lw rest G T = record {
-    starts = record { starts = λ s h. same (startsAt + s) (let p = well-formed c ff .limits .productions-to in omega arith) ∙ T .starts s h };
+  dot : (o : ℕ) → o < m → dotOf w′ o ≡ dotOf w₃ o
+  dot o h = M .other (dotsAt + o) (λ z. omega (arith, few))
+
+  here : (o : ℕ) → o < m → occurringOf c w′ o ≡ occurringOf c w₃ o
+  here o h = occurring-of c w₃ w′ o (production o h) (dot o h)
+
+  -- the lengths stand as they were put down
+  behind : (i : ℕ) → lengthsAt ≤ i → getD w′ i 0 ≡ getD w₂ i 0
+  behind i h = M .other i (λ z. omega arith) ∙ G .high i (omega arith)
+
+  gathered : Gathered c (shortestOf w′) w₃ (productions c) (lengthOf c (productions c)) m
+  gathered = subst (λ (e : ℕ → ℕ). Gathered c e w₃ (productions c) (lengthOf c (productions c)) m) (sym (shortest-same w₂ w′ behind)) (G .gathered)
+
+  pub prepared : Prepared c e w₀ w′
+  prepared = record {
+    starts = record { starts = λ s h. M .other (startsAt + s) (λ z. let p = well-formed c ff .limits .productions-to in omega arith) ∙ G .started .starts s h };
     occurrences = record {
       most = rw (M .here) few;
-      occurs = λ o h. let k : o < m = rw (M .here) at h in rw (same (productionsAt + o) (omega arith), same (dotsAt + o) (omega arith)) (G .occurs o k);
-      all = λ r d o. let x = G .all r d o (inl (o .production)) in let k = x .1 in (x .0, rw (M .here) k, same (productionsAt + x .0) (omega arith) ∙ x .2, same (dotsAt + x .0) (omega arith) ∙ x .3);
-      last = λ j h. let n = well-formed c ff .limits .nonterminals-to in rw (M .here, same (lastsAt + j) (omega arith)) (latest-same c w w′ (terminals c + j) m (lastOf w j) here (G .last j h));
+      occurs = λ o h. let k : o < m = rw (M .here) at h in rw (production o k, dot o k) (gathered .occurs o k);
+      all = λ r d o. let x = gathered .all r d o (inl (o .production)) in (x .0, rw (M .here) (x .1), production (x .0) (x .1) ∙ x .2, dot (x .0) (x .1) ∙ x .3);
+      last = λ j h.
+          let n = well-formed c ff .limits .nonterminals-to in
+          rw (M .here, M .other (lastsAt + j) (λ z. omega arith)) (latest-same c w₃ w′ (terminals c + j) m (lastOf w₃ j) here (gathered .last j h));
       link = λ o h.
           let k : o < m = rw (M .here) at h in
-          rw (same (linksAt + o) (omega arith), here o k) (latest-same c w w′ (occurringOf c w o) o (linkOf w o) (λ i g. here i (let z : i < m = omega arith in z)) (G .link o k));
+          rw (M .other (linksAt + o) (λ z. omega (arith, few)), here o k) (latest-same c w₃ w′ (occurringOf c w₃ o) o (linkOf w₃ o) (λ i g. here i (let z : i < m = omega arith in z)) (gathered .link o k));
     };
-    nullables = nullables-same w₁ w′ (λ i l h. M .other i (λ z. omega arith)) ∙ N .nullables;
-    long = M .long ∙ N .long ∙ lw;
-    high = λ i h. M .other i (λ z. omega arith) ∙ N .high i (omega arith) ∙ rest i h;
+    lengths = λ j h. behind (lengthsAt + j) (omega arith) ∙ Z .high (lengthsAt + j) (omega arith) ∙ E .lengths j h;
+    long = M .long ∙ G .long ∙ Z .long ∙ E .long;
+    high = λ i h. behind i (omega arith) ∙ Z .high i (omega arith) ∙ E .high i h;
   }

@@ -3,7 +3,7 @@ use Prim.Native.Nat.{ℕ, _+_, _≤_, _<_}
 use mathlib.Core.Path.{_≡_}
 use mathlib.Core.List.{List}
 use lib.ListN.{length, getD}
-use Rattle.transitions.specs.Places.{lastsAt, nullablesAt}
+use Rattle.transitions.specs.Places.{lastsAt, occurrencesAt}
 use Rattle.transitions.specs.Area.{lastOf, productionOf, dotOf, linkOf}
 
 -- the places from b to e are 0, the others as they were
@@ -23,4 +23,4 @@ pub record Occurred (w : List ℕ) (m r d j : ℕ) (w′ : List ℕ) : Type 0 wh
   pub old : (o : ℕ) → o < m → (productionOf w′ o ≡ productionOf w o) × (dotOf w′ o ≡ dotOf w o) × (linkOf w′ o ≡ linkOf w o)
   pub others : (u : ℕ) → u < 60 → (u ≡ j → ⊥) → lastOf w′ u ≡ lastOf w u
   pub low : (i : ℕ) → i < lastsAt → getD w′ i 0 ≡ getD w i 0
-  pub high : (i : ℕ) → nullablesAt ≤ i → getD w′ i 0 ≡ getD w i 0
+  pub high : (i : ℕ) → occurrencesAt ≤ i → getD w′ i 0 ≡ getD w i 0

@@ -4,6 +4,7 @@ ghost use Prim.Native.Nat.{_<_, _≤_};
 ghost use lib.ListN.{length};
 ghost use Rattle.grammar.specs.Card.{productions, lengthOf, startOf, formFault};
 ghost use Rattle.areas.specs.Areas.{halvesSize};
+ghost use Rattle.transitions.specs.Area.{shortestOf};
 ghost use Rattle.occurrences.specs.Stores.{Cleared, Occurred};
 ghost use Rattle.occurrences.specs.Gathers.{Gathered, Between, Collected, Prepared};
 
@@ -32,9 +33,9 @@ fn occur(w: &mut [u32], m: u32, r: u32, d: u32, j: u32)
 }
 
 // The occurrences in production r, from its end as far as what is behind is nullable; its symbols begin at s, and m occurrences are there.
-fn tail(c: &[u16], w: &mut [u32], e: u64, r: u16, s: u32, m: u32) -> u32
-    requires { ⌜ (formFault (now c) ≡ 0) × (r < productions (now c)) × (s ≡ startOf (now c) r) × (halvesSize ≤ length (now w)) × Gathered (now c) e (now w) r (lengthOf (now c) r) m ⌝ }
-    ensures { λ v. ⌜ Gathered (now (c .entry)) e (now (w .exit)) r 0 v × Between (now (w .entry)) (now (w .exit)) ⌝ }
+fn tail(c: &[u16], w: &mut [u32], r: u16, s: u32, m: u32) -> u32
+    requires { ⌜ (formFault (now c) ≡ 0) × (r < productions (now c)) × (s ≡ startOf (now c) r) × (halvesSize ≤ length (now w)) × Gathered (now c) (shortestOf (now w)) (now w) r (lengthOf (now c) r) m ⌝ }
+    ensures { λ v. ⌜ Gathered (now (c .entry)) (shortestOf (now (w .entry))) (now (w .exit)) r 0 v × Between (now (w .entry)) (now (w .exit)) ⌝ }
 {
     let t = card::wider(card::terminals(c));
     let mut d = card::wider(card::length(c, r));
@@ -47,7 +48,7 @@ fn tail(c: &[u16], w: &mut [u32], e: u64, r: u16, s: u32, m: u32) -> u32
         }
         occur(w, k, card::wider(r), d, x - t);
         k += 1;
-        if !sets::has(e, x - t) {
+        if transitions::shortest_length(w, x - t) != 0 {
             return k;
         }
     }
@@ -55,9 +56,9 @@ fn tail(c: &[u16], w: &mut [u32], e: u64, r: u16, s: u32, m: u32) -> u32
 }
 
 // The starts of the right sides and the occurrences in them; the answer is how many.
-fn gather(c: &[u16], w: &mut [u32], e: u64) -> u32
-    requires { ⌜ (formFault (now c) ≡ 0) × (halvesSize ≤ length (now w)) × Gathered (now c) e (now w) 0 (lengthOf (now c) 0) 0 ⌝ }
-    ensures { λ m. ⌜ Collected (now (c .entry)) e (now (w .entry)) (now (w .exit)) m ⌝ }
+fn gather(c: &[u16], w: &mut [u32]) -> u32
+    requires { ⌜ (formFault (now c) ≡ 0) × (halvesSize ≤ length (now w)) × Gathered (now c) (shortestOf (now w)) (now w) 0 (lengthOf (now c) 0) 0 ⌝ }
+    ensures { λ m. ⌜ Collected (now (c .entry)) (now (w .entry)) (now (w .exit)) m ⌝ }
 {
     let p = card::productions(c);
     let mut s: u32 = 0;
@@ -65,20 +66,20 @@ fn gather(c: &[u16], w: &mut [u32], e: u64) -> u32
     let mut r: u16 = 0;
     while r < p {
         transitions::put(w, transitions::STARTS_AT, card::wider(r), s);
-        m = tail(c, w, e, r, s, m);
+        m = tail(c, w, r, s, m);
         s += card::wider(card::length(c, r));
         r += 1;
     }
     m
 }
 
-// All that the card gives, with the nullable nonterminals e.
-pub fn prepare(c: &[u16], w: &mut [u32], e: u64)
+// All that the card gives, with the shortest lengths e of its nonterminals.
+pub fn prepare(c: &[u16], w: &mut [u32], e: &[u16; 60])
     requires { ⌜ (formFault (now c) ≡ 0) × (halvesSize ≤ length (now w)) ⌝ }
-    ensures { λ _. ⌜ Prepared (now (c .entry)) e (now (w .entry)) (now (w .exit)) ⌝ }
+    ensures { λ _. ⌜ Prepared (now (c .entry)) (now (e .entry)) (now (w .entry)) (now (w .exit)) ⌝ }
 {
+    transitions::put_lengths(w, e);
     clear(w, transitions::LASTS_AT, transitions::PRODUCTIONS_AT);
-    let m = gather(c, w, e);
-    transitions::put_nullables(w, e);
+    let m = gather(c, w);
     transitions::put(w, transitions::OCCURRENCES_AT, 0, m);
 }

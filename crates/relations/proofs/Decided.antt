@@ -7,9 +7,8 @@ use Prim.Native.Nat.{ℕ, zero, suc, _+_, _-_, _<_}
 use native.Mathlib.Omega.{arith}
 use native.Mathlib.Decide.{map-dec, ℕ-discrete, decLe, decLt}
 use native.Mathlib.Nat.{not-suc-le-zero, eq-or-lt-of-le, le-of-suc-le-suc}
-use Rattle.sets.specs.Bit.{bit}
 use Rattle.grammar.specs.Card.{terminals, productions, lengthOf, leftOf}
-use Rattle.transitions.specs.Area.{leavesOf, nonterminalOf, entersOf, enteringOf, precedes, nullablesOf}
+use Rattle.transitions.specs.Area.{leavesOf, nonterminalOf, entersOf, enteringOf, precedes, shortestOf}
 use Rattle.transitions.specs.Occurrences.{symbolAt, Nullable, Occurs}
 use Rattle.transitions.specs.Data.{Enters}
 use Rattle.relations.specs.Path.{Path}
@@ -29,12 +28,12 @@ below-decided {P} d (suc n) = go (d n) (below-decided d n)
     go (no a) (yes t) = yes (t .0, omega (arith, t .1), t .2)
     go (no a) (no b) = no (λ t. ⊎-elim (λ e. a (subst P e (t .2))) (λ h. b (t .0, h, t .2)) (eq-or-lt-of-le (le-of-suc-le-suc (t .1))))
 
-nullable-decided : (c : List ℕ) (e x : ℕ) → Dec (Nullable c e x)
+nullable-decided : (c : List ℕ) (e : ℕ → ℕ) (x : ℕ) → Dec (Nullable c e x)
 nullable-decided c e x =
-    map-dec (λ t. record { nonterminal = t .0; member = t .1 }) (λ n. (n .nonterminal, n .member))
-    (Dec·and (decLe (terminals c) x) (Bool-discrete (bit e (x - terminals c)) true))
+    map-dec (λ t. record { nonterminal = t .0; empty = t .1 }) (λ n. (n .nonterminal, n .empty))
+    (Dec·and (decLe (terminals c) x) (ℕ-discrete (e (x - terminals c)) 0))
 
-module _ (c : List ℕ) (e r d : ℕ) where
+module _ (c : List ℕ) (e : ℕ → ℕ) (r d : ℕ) where
   -- by seeking a symbol behind the dot d that is not nullable
   tail-decided : Dec ((i : ℕ) → d < i → i < lengthOf c r → Nullable c e (symbolAt c r i))
   tail-decided =
@@ -72,7 +71,7 @@ module _ (c w : List ℕ) (x y : ℕ) where
   reads-decided : Dec (Reads c w x y)
   reads-decided =
       map-dec (λ t. record { state = t .0; nullable = t .1 }) (λ t. (t .state, t .nullable))
-      (Dec·and (ℕ-discrete (leavesOf w y) (entersOf w x)) (nullable-decided c (nullablesOf w) (nonterminalOf w y)))
+      (Dec·and (ℕ-discrete (leavesOf w y) (entersOf w x)) (nullable-decided c (shortestOf w) (nonterminalOf w y)))
 
   includes-decided : Dec (Includes c w x y)
   includes-decided =
@@ -80,7 +79,7 @@ module _ (c w : List ℕ) (x y : ℕ) where
       (λ t. record { production = t .0; dot = t .2 .0; occurs = t .2 .2 .0 .0; symbol = t .2 .2 .0 .1; left = t .2 .2 .1 .0; leads = t .2 .2 .1 .1 })
       (λ t. (t .production, t .occurs .production, (t .dot, t .occurs .within, ((t .occurs, t .symbol), (t .left, t .leads)))))
       (below-decided (λ r. below-decided (λ d. Dec·and
-      (Dec·and (occurs-decided c (nullablesOf w) r d) (ℕ-discrete (symbolAt c r d) (nonterminalOf w x)))
+      (Dec·and (occurs-decided c (shortestOf w) r d) (ℕ-discrete (symbolAt c r d) (nonterminalOf w x)))
       (Dec·and (ℕ-discrete (leftOf c r) (nonterminalOf w y)) (path-decided w (symbolAt c r) d (leavesOf w x) d 0 (leavesOf w y) (omega arith))))
       (lengthOf c r)) (productions c))
 

@@ -14,7 +14,7 @@ use Rattle.grammar.specs.Card.{terminals, leftOf}
 use Rattle.state_sets.specs.Words.{Lowest}
 use Rattle.state_sets.proofs.WordLaws.{out-in, out-or, out-less}
 use Rattle.transitions.specs.Places.{transitionLimit}
-use Rattle.transitions.specs.Area.{leavesOf, nonterminalOf, productionOf, dotOf, linkOf, lastOf, occurrencesOf, nullablesOf}
+use Rattle.transitions.specs.Area.{leavesOf, nonterminalOf, productionOf, dotOf, linkOf, lastOf, occurrencesOf, shortestOf}
 use Rattle.transitions.specs.Occurrences.{symbolAt, occurringOf, Latest, Occurs}
 use Rattle.transitions.specs.Data.{Ordered}
 use Rattle.relations.specs.Path.{Leads, States}
@@ -84,7 +84,7 @@ module _ (c w : List ℕ) (k x : ℕ) (O : Ordered c w k) where
           (record { left = ap (leftOf c) ep ∙ i .left; leads = subst (λ (z : ℕ). Leads c w z (dotOf w o) (leavesOf w x) (leavesOf w y)) (sym ep) (subst (λ (z : ℕ). Leads c w (i .production) z (leavesOf w x) (leavesOf w y)) (sym ed) (i .leads)) })
 
 -- what a call at occurrence a - 1 asks
-pub occurs-at : (c w : List ℕ) (k a : ℕ) → Ordered c w k → (a ≡ 0 → ⊥) → a ≤ occurrencesOf w → Occurs c (nullablesOf w) (productionOf w (a - 1)) (dotOf w (a - 1))
+pub occurs-at : (c w : List ℕ) (k a : ℕ) → Ordered c w k → (a ≡ 0 → ⊥) → a ≤ occurrencesOf w → Occurs c (shortestOf w) (productionOf w (a - 1)) (dotOf w (a - 1))
 occurs-at c w k a O n h = O .occurrences .occurs (a - 1) (omega arith)
 
 -- and the next one before it

@@ -1,16 +1,18 @@
 -- The edges of reads: the transitions of one state, in their order.
 use mathlib.Core.Path.{_≡_, sym, _∙_, subst}
 use mathlib.Core.List.{List}
-use mathlib.Core.Bool.{Bool, true, false, false≢true, true≢false}
+use mathlib.Core.Bool.{true, false, false≢true, true≢false}
 use mathlib.Core.Logic.{_⊎_, inl, inr, ⊎-elim}
 use Prim.Native.Nat.{ℕ, _+_, _-_, _≤_, _<_}
 use native.Mathlib.Omega.{arith}
 use native.Mathlib.Nat.{eq-or-lt-of-le}
-use Rattle.sets.specs.Bit.{bit, Tells}
+use lib.Dec.{eqb}
+use borrow.Author.Tests.{eqb-true, eq-eqb}
+use Rattle.sets.specs.Bit.{Tells}
 use Rattle.sets.proofs.HasLaws.{lt-or-ge}
 use Rattle.grammar.specs.Card.{terminals}
 use Rattle.transitions.specs.Places.{transitionLimit}
-use Rattle.transitions.specs.Area.{nonterminalOf, entersOf, firstOf, nullablesOf}
+use Rattle.transitions.specs.Area.{nonterminalOf, entersOf, firstOf, shortestOf}
 use Rattle.transitions.specs.Occurrences.{Nullable}
 use Rattle.transitions.specs.Data.{Ordered}
 use Rattle.relations.specs.Edge.{Reads}
@@ -22,17 +24,14 @@ use Rattle.relations.specs.declared.Found.{Found}
 
 -- ---- tests
 
-pub null-no : (c : List ℕ) (e x : ℕ) → x < terminals c → Tells false (Nullable c e x)
+pub null-no : (c : List ℕ) (e : ℕ → ℕ) (x : ℕ) → x < terminals c → Tells false (Nullable c e x)
 null-no c e x h = record { yes = λ z. absurd (false≢true z); so = λ n. absurd (let l = n .nonterminal in let z : ⊥ = omega arith in z) }
 
-pub null-tells : (c : List ℕ) (e x t : ℕ) (r : Bool) → t ≡ terminals c → t ≤ x → r ≡ bit e (x - t) → Tells r (Nullable c e x)
-null-tells c e x t r et h er = record {
-  yes = λ z. record { nonterminal = rw et at h; member = rw et at (sym er ∙ z) };
-  so = λ n. er ∙ rw et (n .member);
+pub null-tells : (c : List ℕ) (e : ℕ → ℕ) (x t v : ℕ) → t ≡ terminals c → t ≤ x → v ≡ e (x - t) → Tells (eqb v 0) (Nullable c e x)
+null-tells c e x t v et h ev = record {
+  yes = λ z. record { nonterminal = rw et at h; empty = rw et at (sym ev ∙ eqb-true v 0 z) };
+  so = λ n. eq-eqb v 0 (ev ∙ rw et (n .empty));
 }
-
-pub null-at : (c : List ℕ) {r : Bool} (e x e′ x′ : ℕ) → e ≡ e′ → x ≡ x′ → Tells r (Nullable c e x) → Tells r (Nullable c e′ x′)
-null-at c e x e′ x′ ee ex t = rw (ee, ex) at t
 
 -- what none from b on and below i has, and i has not
 pub gap-more : (P : ℕ → Type 0) (b i : ℕ) → (P i → ⊥) → ((y : ℕ) → b ≤ y → y < i → P y → ⊥) → (y : ℕ) → b ≤ y → y < i + 1 → P y → ⊥
@@ -77,7 +76,7 @@ module _ (c w : List ℕ) (k x : ℕ) (O : Ordered c w k) where
   }
 
   -- no transition from the cursor's on and below i is read
-  module _ (cursor : Cursor) (i : ℕ) (gap : (y : ℕ) → cursor .at ≤ y → y < i → Nullable c (nullablesOf w) (nonterminalOf w y) → ⊥) where
+  module _ (cursor : Cursor) (i : ℕ) (gap : (y : ℕ) → cursor .at ≤ y → y < i → Nullable c (shortestOf w) (nonterminalOf w y) → ⊥) where
     pub reads-none : (r : Found) → firstOf w (entersOf w x + 1) ≤ i → r .more ≡ false → Nexts relation.Reads c w k x cursor r
     reads-none r h e =
         let no : r .more ≡ true → ⊥ = λ t. true≢false (sym t ∙ e) in
@@ -89,7 +88,7 @@ module _ (c w : List ℕ) (k x : ℕ) (O : Ordered c w k) where
           none = λ t y l. let d = l .remaining in let g = read-to y (l .inside) (d .1) in gap y (d .0) (omega arith) (d .1 .nullable);
         }
 
-    pub reads-found : (s : List ℕ) → x < k → Sound relation.Reads c w x cursor → cursor .at ≤ i → i < firstOf w (entersOf w x + 1) → Nullable c (nullablesOf w) (nonterminalOf w i)
+    pub reads-found : (s : List ℕ) → x < k → Sound relation.Reads c w x cursor → cursor .at ≤ i → i < firstOf w (entersOf w x + 1) → Nullable c (shortestOf w) (nonterminalOf w i)
         → Nexts relation.Reads c w k x cursor (record { more = true; node = i; cursor = record { at = i + 1; set = s } })
     unfolding roomOf
     reads-found s hx S h l n =

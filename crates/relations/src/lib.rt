@@ -4,7 +4,7 @@ ghost use mathlib.Core.List.{List};
 ghost use Prim.Native.Nat.{ℕ, _<_, _≤_};
 ghost use Rattle.sets.specs.Bit.{Tells};
 ghost use Rattle.grammar.specs.Card.{productions, lengthOf};
-ghost use Rattle.transitions.specs.Area.{occurrencesOf};
+ghost use Rattle.transitions.specs.Area.{occurrencesOf, shortestOf};
 ghost use Rattle.transitions.specs.Occurrences.{Nullable};
 ghost use Rattle.transitions.specs.Data.{Ordered};
 ghost use Rattle.relations.specs.Path.{Leads, States};
@@ -97,15 +97,15 @@ pub fn index(w: &[u32], p: u32, x: u32) -> u32
     transitions::LIMIT
 }
 
-// Whether x is a nullable nonterminal, by the word e.
-fn nullable(c: &[u16], e: u64, x: u32) -> bool
-    ensures { λ r. ⌜ Tells r (Nullable (now (c .entry)) e x) ⌝ }
+// Whether x is a nullable nonterminal: one whose shortest length is 0.
+fn nullable(c: &[u16], w: &[u32], x: u32) -> bool
+    ensures { λ r. ⌜ Tells r (Nullable (now (c .entry)) (shortestOf (now (w .entry))) x) ⌝ }
 {
     let t = card::wider(card::terminals(c));
     if x < t {
         return false;
     }
-    sets::has(e, x - t)
+    transitions::shortest_length(w, x - t) == 0
 }
 
 fn first_reads(w: &[u32], x: u32) -> Cursor
@@ -120,12 +120,11 @@ fn next_reads(c: &[u16], w: &[u32], x: u32, cursor: Cursor) -> Found
     requires { ⌜ Standing Relation.Reads (now c) (now w) x cursor ⌝ }
     ensures { λ r. ⌜ ((k : ℕ) → Ordered (now (c .entry)) (now (w .entry)) k → Nexts Relation.Reads (now (c .entry)) (now (w .entry)) k x cursor r) ⌝ }
 {
-    let e = transitions::nullables(w);
     let end = transitions::first(w, transitions::enters(w, x) + 1);
     let set = cursor.set;
     let mut i = cursor.at;
     while i < end {
-        if nullable(c, e, transitions::nonterminal(w, i)) {
+        if nullable(c, w, transitions::nonterminal(w, i)) {
             let next = Cursor {
                 at: i + 1,
                 set: set,

@@ -11,12 +11,12 @@ use Rattle.sets.specs.Bit.{count}
 use Rattle.sets.proofs.HasLaws.{lt-or-ge}
 use Rattle.grammar.specs.Card.{terminals, productions, startOf, formFault}
 use Rattle.tables.specs.Conflicts.{Before, lower-state, lower-symbol}
-use Rattle.transitions.specs.Places.{transitionLimit, enteringAt, startsAt, lastsAt, productionsAt, dotsAt, linksAt, occurrencesAt}
-use Rattle.transitions.specs.Area.{leavesOf, nonterminalOf, firstOf, enteringOf, precedes, startingOf, lastOf, linkOf, occurrencesOf, nullablesOf}
+use Rattle.transitions.specs.Places.{transitionLimit, enteringAt, startsAt, lastsAt, productionsAt, dotsAt, linksAt, occurrencesAt, lengthsAt}
+use Rattle.transitions.specs.Area.{leavesOf, nonterminalOf, firstOf, enteringOf, precedes, startingOf, lastOf, linkOf, occurrencesOf, shortestOf}
 use Rattle.transitions.specs.Next.{Goes, Numbered, moves, transitionCount}
 use Rattle.transitions.specs.Occurrences.{symbolAt, occurringOf, Occurrences}
 use Rattle.transitions.specs.Data.{Enters, Data, Built}
-use Rattle.transitions.proofs.WriteLaws.{nullables-same}
+use Rattle.transitions.proofs.WriteLaws.{shortest-same}
 use Rattle.occurrences.specs.Stores.{Cleared}
 use Rattle.transition_lists.specs.Passes.{Listing, Firsts, Passed, Come}
 use Rattle.occurrences.specs.Gathers.{Prepared}
@@ -25,13 +25,13 @@ use Rattle.occurrences.proofs.GatherLaws.{latest-same}
 
 -- ---- the card's part, where the places from startsAt on are the same
 
-module _ (c : List ℕ) (e : ℕ) (w w′ : List ℕ) (same : (i : ℕ) → startsAt ≤ i → getD w′ i 0 ≡ getD w i 0) where
+module _ (c w w′ : List ℕ) (same : (i : ℕ) → startsAt ≤ i → getD w′ i 0 ≡ getD w i 0) where
   occurring-same : (o : ℕ) → occurringOf c w′ o ≡ occurringOf c w o
   unfolding occurringOf
   occurring-same o = ap₂ (symbolAt c) (same (productionsAt + o) (omega arith)) (same (dotsAt + o) (omega arith))
 
-  occurrences-same : Occurrences c e w → Occurrences c e w′
-  occurrences-same O =
+  listed-same : (e : ℕ → ℕ) → Occurrences c e w → Occurrences c e w′
+  listed-same e O =
       let m : occurrencesOf w′ ≡ occurrencesOf w = same occurrencesAt (omega arith) in
       record {
         most = rw m (O .most);
@@ -40,6 +40,9 @@ module _ (c : List ℕ) (e : ℕ) (w w′ : List ℕ) (same : (i : ℕ) → star
         last = λ j h. rw (m, same (lastsAt + j) (omega arith)) (latest-same c w w′ (terminals c + j) (occurrencesOf w) (lastOf w j) (λ o l. occurring-same o) (O .last j h));
         link = λ o h. rw (same (linksAt + o) (omega arith), occurring-same o) (latest-same c w w′ (occurringOf c w o) o (linkOf w o) (λ o l. occurring-same o) (O .link o (rw m at h)));
       }
+
+  occurrences-same : Occurrences c (shortestOf w) w → Occurrences c (shortestOf w′) w′
+  occurrences-same O = rw (shortest-same w w′ (λ i h. same i (omega arith))) (listed-same (shortestOf w) O)
 
 -- ---- the table's part
 
@@ -112,8 +115,8 @@ module _ (c : List ℕ) (n : ℕ) (next : ℕ → ℕ → ℕ) (N : Numbered c n
       let ey : y ≡ x = sym (P .seen .symbol p y (o .1) nz) ∙ ap (enteringOf w) (o .2) ∙ g .symbol in
       record { target = ap (next p) (sym ey) ∙ o .2; some = o .3 }
 
-  module _ (e : ℕ) (ff : formFault c ≡ 0) (starts : (r : ℕ) → r < productions c → startingOf w r ≡ startOf c r) (O : Occurrences c e w) (E : nullablesOf w ≡ e) (ck : k ≡ transitionCount c next n) where
-    data-of : Data c w n k e next
+  module _ (ff : formFault c ≡ 0) (starts : (r : ℕ) → r < productions c → startingOf w r ≡ startOf c r) (O : Occurrences c (shortestOf w) w) (ck : k ≡ transitionCount c next n) where
+    data-of : Data c w n k next
     data-of = record {
       ordered = record {
         formed = ff;
@@ -127,7 +130,7 @@ module _ (c : List ℕ) (n : ℕ) (next : ℕ → ℕ → ℕ) (N : Numbered c n
         to = to;
         one = one;
         starts = starts;
-        occurrences = rw E O;
+        occurrences = O;
       };
       count = ck;
       states = leaves;
@@ -137,17 +140,17 @@ module _ (c : List ℕ) (n : ℕ) (next : ℕ → ℕ → ℕ) (N : Numbered c n
       goes = goes;
       enters = enters;
       start = P .seen .start;
-      nullables = E;
     }
 
 -- ---- both
 
-pub built : (c : List ℕ) (n : ℕ) (next : ℕ → ℕ → ℕ) → Numbered c n next → 1 ≤ terminals c → formFault c ≡ 0 → (e k : ℕ) (w₀ w₁ w₂ w₃ w₄ : List ℕ)
+pub built : (c : List ℕ) (n : ℕ) (next : ℕ → ℕ → ℕ) → Numbered c n next → 1 ≤ terminals c → formFault c ≡ 0 → (k : ℕ) (e w₀ w₁ w₂ w₃ w₄ : List ℕ)
     → Prepared c e w₀ w₁ → Cleared w₁ enteringAt startsAt w₂ → Come c next w₂ w₃ n 1 k n → Come c next w₃ w₄ n 1 k 257 → Built c w₀ w₄ n k e next
 unfolding count
-built c n next N t ff e k w₀ w₁ w₂ w₃ w₄ R Z A B = record {
+built c n next N t ff k e w₀ w₁ w₂ w₃ w₄ R Z A B = record {
   count = ck;
-  holds = λ h. data-of c n next N t w₄ k (B .passed) h e ff (λ r g. same (startsAt + r) (omega arith) ∙ R .starts .starts r g) (occurrences-same c e w₁ w₄ same (R .occurrences)) (nullables-same w₁ w₄ (λ i l h. same i (omega arith)) ∙ R .nullables) ck;
+  holds = λ h. data-of c n next N t w₄ k (B .passed) h ff (λ r g. same (startsAt + r) (omega arith) ∙ R .starts .starts r g) (occurrences-same c w₁ w₄ same (R .occurrences)) ck;
+  lengths = λ j h. same (lengthsAt + j) (omega arith) ∙ R .lengths j h;
   long = B .rest .long ∙ A .rest .long ∙ Z .long ∙ R .long;
   rest = λ i h. same i (omega arith) ∙ R .high i h;
 }

@@ -129,5 +129,5 @@ module _ (c w : List ℕ) (next : ℕ → ℕ → ℕ) (z₀ : List ℕ) where
     rest = λ u a. C .rest u (omega arith);
   }
 
-pub enters-below : (c w : List ℕ) (n k e : ℕ) (next : ℕ → ℕ → ℕ) → Numbered c n next → Data c w n k e next → (i : ℕ) → i < k → entersOf w i < n
-enters-below c w n k e next N D i h = rw (D .target i h) (N .target (leavesOf w i) (nonterminalOf w i))
+pub enters-below : (c w : List ℕ) (n k : ℕ) (next : ℕ → ℕ → ℕ) → Numbered c n next → Data c w n k next → (i : ℕ) → i < k → entersOf w i < n
+enters-below c w n k next N D i h = rw (D .target i h) (N .target (leavesOf w i) (nonterminalOf w i))

@@ -109,10 +109,10 @@ fn close(w: &mut [u32], n: u32, k: u32)
     }
 }
 
-// All of it: the answer is the number of nonterminal transitions; within the limit the area holds them.
-pub fn build(c: &[u16], t: &[u16], w: &mut [u32], n: u32, e: u64) -> u32
+// All of it, with the shortest lengths e: the answer is the number of nonterminal transitions; within the limit the area holds them.
+pub fn build(c: &[u16], t: &[u16], w: &mut [u32], n: u32, e: &[u16; 60]) -> u32
     requires { ⌜ (formFault (now c) ≡ 0) × Numbered (now c) n (nextOf (now c) (now t) n) × (halvesSize ≤ length (now w)) ⌝ }
-    ensures { λ k. ⌜ Built (now (c .entry)) (now (w .entry)) (now (w .exit)) n k e (nextOf (now (c .entry)) (now (t .entry)) n) ⌝ }
+    ensures { λ k. ⌜ Built (now (c .entry)) (now (w .entry)) (now (w .exit)) n k (now (e .entry)) (nextOf (now (c .entry)) (now (t .entry)) n) ⌝ }
 {
     occurrences::prepare(c, w, e);
     occurrences::clear(w, transitions::ENTERING_AT, transitions::STARTS_AT);
@@ -178,7 +178,7 @@ fn ending(c: &[u16], w: &[u32], i: u32) -> u64
 
 // The direct reads of the k transitions, in the words from 0 on.
 pub fn direct(c: &[u16], t: &[u16], w: &[u32], z: &mut [u64], n: u32, k: u32)
-    requires { ⌜ Numbered (now c) n (nextOf (now c) (now t) n) × (wordsSize ≤ length (now z)) × ((e : ℕ) × Data (now c) (now w) n k e (nextOf (now c) (now t) n)) ⌝ }
+    requires { ⌜ Numbered (now c) n (nextOf (now c) (now t) n) × (wordsSize ≤ length (now z)) × Data (now c) (now w) n k (nextOf (now c) (now t) n) ⌝ }
     ensures { λ _. ⌜ Begun (now (c .entry)) (now (w .entry)) n k (nextOf (now (c .entry)) (now (t .entry)) n) (now (z .entry)) (now (z .exit)) ⌝ }
 {
     words(c, t, z, n);

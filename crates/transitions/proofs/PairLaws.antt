@@ -1,5 +1,5 @@
 -- Two numbers as one: the digits of a + b * 2 ^ k, at any width.
-use mathlib.Core.Path.{_≡_, refl, sym, ap, _∙_}
+use mathlib.Core.Path.{_≡_, sym, ap, _∙_}
 use mathlib.Core.List.{List}
 use mathlib.Core.Logic.{⊎-elim}
 use Prim.Native.Nat.{ℕ, zero, suc, _+_, _-_, _*_, _/_, _%_, _^_, _<_, _≤_}
@@ -11,7 +11,7 @@ use lib.Pow.{pow-pos}
 use Rattle.sets.specs.Bit.{bit}
 use Rattle.sets.proofs.BitLaws.{bit-low, bit-suc, bit-shr}
 use Rattle.sets.proofs.HasLaws.{lt-or-ge}
-use Rattle.transitions.specs.Area.{pairOf, Paired}
+use Rattle.transitions.specs.Area.{Paired}
 
 pub bit-front : (k a b m : ℕ) → m < k → bit (a + b * 2 ^ k) m ≡ bit a m
 bit-front zero a b m h = absurd (not-suc-le-zero h)
@@ -29,10 +29,8 @@ bit-behind k a b m h =
     let e : (a + b * 2 ^ k) / 2 ^ k ≡ b = add-mul-div-right a b (pow-pos k) ∙ ap (λ (x : ℕ). x + b) (div-eq-of-lt h) ∙ zero-add b in
     sym (bit-shr (a + b * 2 ^ k) k m) ∙ ap (λ (x : ℕ). bit x m) e
 
-pub paired : (w : List ℕ) (i : ℕ) → getD w i 0 < 2 ^ 32 → Paired w i (pairOf w i)
-unfolding pairOf
+pub paired : (w : List ℕ) (i : ℕ) → getD w i 0 < 2 ^ 32 → Paired w i (getD w i 0 + getD w (i + 1) 0 * 2 ^ 32)
 paired w i h = record {
-  value = refl;
   bits = λ m l.
       ⊎-elim
       (λ (s : m < 32).
@@ -49,5 +47,4 @@ paired w i h = record {
 }
 
 pub paired-of : (w : List ℕ) (i a b : ℕ) → a ≡ getD w i 0 → b ≡ getD w (i + 1) 0 → a < 2 ^ 32 → Paired w i (a + b * 2 ^ 32)
-unfolding pairOf
 paired-of w i a b ea eb h = rw (ea, eb) (paired w i (rw ea at h))

@@ -5,7 +5,6 @@ use mathlib.Core.Bool.{Bool, false, _&&_, _||_}
 use mathlib.Core.Logic.{_⊎_, ⊎-elim}
 use Prim.Native.Nat.{ℕ, _+_, _*_, _/_, _%_, _^_, _≤_, _<_}
 use native.Mathlib.Omega.{arith}
-use native.Mathlib.Nat.{mod-add-div'}
 use lib.Dec.{eqb}
 use lib.ListN.{length, getD, set, length-set}
 use lib.Seq.{getD-set-same, getD-set-other}
@@ -14,9 +13,9 @@ use borrow.Author.Tests.{eq-eqb, ne-eqb}
 use Rattle.sets.specs.Bit.{bit}
 use Rattle.sets.proofs.BitLaws.{bit-zero, bit-or, bit-pow}
 use Rattle.sets.proofs.HasLaws.{eq-or, or-false}
-use Rattle.transitions.specs.Places.{predecessorsAt, startsAt, nullablesAt, occurrencesAt}
-use Rattle.transitions.specs.Area.{precedes, pairOf, Paired, nullablesOf}
-use Rattle.transitions.specs.Writes.{Stored, Preceded, Nulled}
+use Rattle.transitions.specs.Places.{predecessorsAt, startsAt, lengthsAt}
+use Rattle.transitions.specs.Area.{precedes, Paired, shortestOf}
+use Rattle.transitions.specs.Writes.{Stored, Preceded, Measured}
 
 pub stored : (w : List ℕ) (i j v : ℕ) → j ≡ i → i < length w → Stored w i v (set w j v)
 stored w i j v e h = rw e (record { long = length-set w i v; here = getD-set-same w i v 0 h; other = λ u n. getD-set-other w i u v 0 n })
@@ -88,17 +87,25 @@ word-of w q j a r ea P m h =
     let d : m % 32 ≡ (64 * j + m) % 32 = omega arith in
     P .bits m h ∙ ap₂ (λ (x y : ℕ). bit (getD w x 0) y) e d
 
--- ---- the nullable nonterminals
+-- ---- the shortest lengths
 
-pub nullables-same : (w w′ : List ℕ) → ((i : ℕ) → nullablesAt ≤ i → i < occurrencesAt → getD w′ i 0 ≡ getD w i 0) → nullablesOf w′ ≡ nullablesOf w
-unfolding pairOf
-nullables-same w w′ same = ap₂ (λ (a b : ℕ). a + b * 2 ^ 32) (same nullablesAt (omega arith) (omega arith)) (same (nullablesAt + 1) (omega arith) (omega arith))
+pub shortest-same : (w w′ : List ℕ) → ((i : ℕ) → lengthsAt ≤ i → getD w′ i 0 ≡ getD w i 0) → shortestOf w′ ≡ shortestOf w
+shortest-same w w′ same = λ i j. same (lengthsAt + j) (omega arith) i
 
-pub nulled : (w w₁ w₂ : List ℕ) (e : ℕ) → Stored w nullablesAt (e % 2 ^ 32) w₁ → Stored w₁ (nullablesAt + 1) (e / 2 ^ 32) w₂ → Nulled w e w₂
-unfolding pairOf
-nulled w w₁ w₂ e A B = record {
-  long = B .long ∙ A .long;
-  nullables = ap₂ (λ (a b : ℕ). a + b * 2 ^ 32) (B .other nullablesAt (λ z. omega arith) ∙ A .here) (B .here) ∙ mod-add-div' e (2 ^ 32);
-  low = λ i h. B .other i (λ z. omega arith) ∙ A .other i (λ z. omega arith);
-  high = λ i h. B .other i (λ z. omega arith) ∙ A .other i (λ z. omega arith);
+pub measured-none : (w e : List ℕ) → Measured w e 0 w
+measured-none w e = record { long = refl; lengths = λ j h. absurd (let z : ⊥ = omega arith in z); low = λ i h. refl; high = λ i h. refl }
+
+pub measured-more : (w e w′ : List ℕ) (n v : ℕ) → Measured w e n w′ → lengthsAt + n < length w → v ≡ getD e n 0 → Measured w e (n + 1) (set w′ (lengthsAt + n) v)
+measured-more w e w′ n v m h ev = record {
+  long = S .long ∙ m .long;
+  lengths = λ j l.
+      ⊎-elim (λ (z : j ≡ n). rw z (S .here ∙ ev)) (λ (z : j ≡ n → ⊥). S .other (lengthsAt + j) (λ y. z (omega arith)) ∙ m .lengths j (omega arith)) (eq-or j n);
+  low = λ i l. S .other i (λ z. omega arith) ∙ m .low i l;
+  high = λ i l. S .other i (λ z. omega arith) ∙ m .high i (omega arith);
 }
+  where
+    S : Stored w′ (lengthsAt + n) v (set w′ (lengthsAt + n) v)
+    S = stored w′ (lengthsAt + n) (lengthsAt + n) v refl (omega (arith, m .long))
+
+pub measured-end : (w e w′ : List ℕ) (n : ℕ) → n ≤ 60 → 60 ≤ n → Measured w e n w′ → Measured w e 60 w′
+measured-end w e w′ n h g m = let z : n ≡ 60 = omega arith in rw z at m

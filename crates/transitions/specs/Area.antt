@@ -1,11 +1,11 @@
 -- The 32-bit work area while the relations are walked: what stands where. Each reader has an answer for every list, 0 past its end.
-use Prim.Native.Nat.{ℕ, _+_, _*_, _/_, _%_, _^_, _<_}
+use Prim.Native.Nat.{ℕ, _+_, _*_, _/_, _%_, _<_}
 use mathlib.Core.Path.{_≡_}
 use mathlib.Core.Bool.{Bool}
 use mathlib.Core.List.{List}
 use lib.ListN.{getD}
 use Rattle.sets.specs.Bit.{bit}
-use Rattle.transitions.specs.Places.{leavesAt, nonterminalsAt, entersAt, firstsAt, enteringAt, predecessorsAt, startsAt, lastsAt, productionsAt, dotsAt, linksAt, nullablesAt, occurrencesAt}
+use Rattle.transitions.specs.Places.{leavesAt, nonterminalsAt, entersAt, firstsAt, enteringAt, predecessorsAt, startsAt, lastsAt, productionsAt, dotsAt, linksAt, occurrencesAt, lengthsAt}
 
 -- nonterminal transition i (the paper's name move): the state that it leaves, its nonterminal, and the state that it enters
 abbrev pub leavesOf : List ℕ → ℕ → ℕ
@@ -50,15 +50,14 @@ linkOf w o = getD w (linksAt + o) 0
 abbrev pub occurrencesOf : List ℕ → ℕ
 occurrencesOf w = getD w occurrencesAt 0
 
--- two numbers as one of 64 bits
-unfoldable pub pairOf : List ℕ → ℕ → ℕ
-pairOf w i = getD w i 0 + getD w (i + 1) 0 * 2 ^ 32
+-- the shortest length of nonterminal number j
+abbrev pub shortestOf : List ℕ → ℕ → ℕ
+shortestOf w j = getD w (lengthsAt + j) 0
 
--- r is that, and these are its bits
+-- the first n of these are those of e
+abbrev pub LengthsAre : List ℕ → List ℕ → ℕ → Type 0
+LengthsAre w e n = (j : ℕ) → j < n → shortestOf w j ≡ getD e j 0
+
+-- r has the bits of two numbers, those of the first below
 pub record Paired (w : List ℕ) (i r : ℕ) : Type 0 where
-  pub value : r ≡ pairOf w i
   pub bits : (m : ℕ) → m < 64 → bit r m ≡ bit (getD w (i + m / 32) 0) (m % 32)
-
--- the nullable nonterminals, bit j for nonterminal number j
-abbrev pub nullablesOf : List ℕ → ℕ
-nullablesOf w = pairOf w nullablesAt

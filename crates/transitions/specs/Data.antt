@@ -8,7 +8,7 @@ use lib.ListN.{length, getD}
 use Rattle.sets.specs.Bit.{bit}
 use Rattle.grammar.specs.Card.{terminals, nonterminals, productions, startOf, formFault}
 use Rattle.transitions.specs.Places.{transitionLimit, halvesEnd, shiftsAt, wordsEnd}
-use Rattle.transitions.specs.Area.{leavesOf, nonterminalOf, entersOf, firstOf, enteringOf, precedes, startingOf, nullablesOf}
+use Rattle.transitions.specs.Area.{leavesOf, nonterminalOf, entersOf, firstOf, enteringOf, precedes, startingOf, shortestOf, LengthsAre}
 use Rattle.transitions.specs.Next.{Goes, transitionCount}
 use Rattle.transitions.specs.Occurrences.{Occurrences}
 
@@ -33,10 +33,10 @@ pub record Ordered (c w : List ℕ) (k : ℕ) : Type 0 where
   pub to : (i : ℕ) → i < k → (firstOf w (leavesOf w i) ≤ i) × (i < firstOf w (leavesOf w i + 1))
   pub one : (i j : ℕ) → i < k → j < k → leavesOf w i ≡ leavesOf w j → nonterminalOf w i ≡ nonterminalOf w j → i ≡ j
   pub starts : (r : ℕ) → r < productions c → startingOf w r ≡ startOf c r
-  pub occurrences : Occurrences c (nullablesOf w) w
+  pub occurrences : Occurrences c (shortestOf w) w
 
--- and it means the transitions `next` of n states, and the nullable nonterminals e
-pub record Data (c w : List ℕ) (n k e : ℕ) (next : ℕ → ℕ → ℕ) : Type 0 where
+-- and it means the transitions `next` of n states
+pub record Data (c w : List ℕ) (n k : ℕ) (next : ℕ → ℕ → ℕ) : Type 0 where
   pub ordered : Ordered c w k
   pub count : k ≡ transitionCount c next n
   pub states : (i : ℕ) → i < k → leavesOf w i < n
@@ -46,12 +46,13 @@ pub record Data (c w : List ℕ) (n k e : ℕ) (next : ℕ → ℕ → ℕ) : Ty
   pub goes : (p x q : ℕ) → Goes next p x q → Enters w p x q
   pub enters : (p x q : ℕ) → Enters w p x q → Goes next p x q
   pub start : enteringOf w 0 ≡ 0
-  pub nullables : nullablesOf w ≡ e
 
--- the area after building: k transitions are counted, and within the limit the area holds them; places from halvesEnd on are as they were
-pub record Built (c w₀ w : List ℕ) (n k e : ℕ) (next : ℕ → ℕ → ℕ) : Type 0 where
+-- the area after building: k transitions are counted, and within the limit the area holds them; the shortest lengths are those of e;
+-- places from halvesEnd on are as they were
+pub record Built (c w₀ w : List ℕ) (n k : ℕ) (e : List ℕ) (next : ℕ → ℕ → ℕ) : Type 0 where
   pub count : k ≡ transitionCount c next n
-  pub holds : k ≤ transitionLimit → Data c w n k e next
+  pub holds : k ≤ transitionLimit → Data c w n k next
+  pub lengths : LengthsAre w e 60
   pub long : length w ≡ length w₀
   pub rest : (i : ℕ) → halvesEnd ≤ i → getD w i 0 ≡ getD w₀ i 0
 

@@ -47,16 +47,16 @@ dotsAt = productionsAt + 512
 abbrev pub linksAt : ℕ
 linksAt = dotsAt + 512
 
--- the nullable nonterminals: a word, in two numbers
-abbrev pub nullablesAt : ℕ
-nullablesAt = linksAt + 512
-
 -- how many occurrences there are
 abbrev pub occurrencesAt : ℕ
-occurrencesAt = nullablesAt + 2
+occurrencesAt = linksAt + 512
+
+-- the shortest length of each of 60 nonterminals
+abbrev pub lengthsAt : ℕ
+lengthsAt = occurrencesAt + 1
 
 abbrev pub halvesEnd : ℕ
-halvesEnd = occurrencesAt + 1
+halvesEnd = lengthsAt + 60
 
 -- ---- the 64-bit area: from 0 on the sets of the nonterminal transitions
 

@@ -1,12 +1,12 @@
 -- What the writers of the 32-bit area leave.
-use Prim.Native.Nat.{ℕ, _≤_, _<_}
+use Prim.Native.Nat.{ℕ, _+_, _≤_, _<_}
 use mathlib.Core.Path.{_≡_}
 use mathlib.Core.Bool.{_&&_, _||_}
 use mathlib.Core.List.{List}
 use lib.Dec.{eqb}
 use lib.ListN.{length, getD}
-use Rattle.transitions.specs.Places.{predecessorsAt, startsAt, nullablesAt, occurrencesAt}
-use Rattle.transitions.specs.Area.{precedes, nullablesOf}
+use Rattle.transitions.specs.Places.{predecessorsAt, startsAt, lengthsAt}
+use Rattle.transitions.specs.Area.{precedes, LengthsAre}
 
 -- place i holds v, and each other place what it held
 pub record Stored (w : List ℕ) (i v : ℕ) (w′ : List ℕ) : Type 0 where
@@ -21,9 +21,9 @@ pub record Preceded (w : List ℕ) (q p : ℕ) (w′ : List ℕ) : Type 0 where
   pub low : (i : ℕ) → i < predecessorsAt → getD w′ i 0 ≡ getD w i 0
   pub high : (i : ℕ) → startsAt ≤ i → getD w′ i 0 ≡ getD w i 0
 
--- the nullable nonterminals are e
-pub record Nulled (w : List ℕ) (e : ℕ) (w′ : List ℕ) : Type 0 where
+-- the shortest lengths of the first n nonterminals are those of e, and each other place holds what it held
+pub record Measured (w e : List ℕ) (n : ℕ) (w′ : List ℕ) : Type 0 where
   pub long : length w′ ≡ length w
-  pub nullables : nullablesOf w′ ≡ e
-  pub low : (i : ℕ) → i < nullablesAt → getD w′ i 0 ≡ getD w i 0
-  pub high : (i : ℕ) → occurrencesAt ≤ i → getD w′ i 0 ≡ getD w i 0
+  pub lengths : LengthsAre w′ e n
+  pub low : (i : ℕ) → i < lengthsAt → getD w′ i 0 ≡ getD w i 0
+  pub high : (i : ℕ) → lengthsAt + n ≤ i → getD w′ i 0 ≡ getD w i 0

@@ -3,9 +3,9 @@ ghost use mathlib.Core.Path.{_≡_};
 ghost use Prim.Native.Nat.{ℕ, _+_, _*_, _<_, _≤_};
 ghost use lib.ListN.{length, getD};
 ghost use Rattle.sets.specs.Bit.{bit};
-ghost use Rattle.transitions.specs.Places.{startsAt, occurrencesAt};
-ghost use Rattle.transitions.specs.Area.{leavesOf, nonterminalOf, entersOf, firstOf, enteringOf, precedes, startingOf, lastOf, productionOf, dotOf, linkOf, nullablesOf, Paired};
-ghost use Rattle.transitions.specs.Writes.{Stored, Preceded, Nulled};
+ghost use Rattle.transitions.specs.Places.{startsAt, halvesEnd};
+ghost use Rattle.transitions.specs.Area.{leavesOf, nonterminalOf, entersOf, firstOf, enteringOf, precedes, startingOf, lastOf, productionOf, dotOf, linkOf, shortestOf, Paired};
+ghost use Rattle.transitions.specs.Writes.{Stored, Preceded, Measured};
 
 // How many nonterminal transitions the areas have places for.
 pub const LIMIT: u32 = 2048;
@@ -34,9 +34,9 @@ pub const DOTS_AT: usize = PRODUCTIONS_AT + 512;
 
 pub const LINKS_AT: usize = DOTS_AT + 512;
 
-const NULLABLES_AT: usize = LINKS_AT + 512;
+pub const OCCURRENCES_AT: usize = LINKS_AT + 512;
 
-pub const OCCURRENCES_AT: usize = NULLABLES_AT + 2;
+const LENGTHS_AT: usize = OCCURRENCES_AT + 1;
 
 // ---- and those of the 64-bit area
 
@@ -129,6 +129,13 @@ pub fn link(w: &[u32], o: u32) -> u32
     after(w, LINKS_AT, o)
 }
 
+// The shortest length of nonterminal number j.
+pub fn shortest_length(w: &[u32], j: u32) -> u32
+    ensures { λ r. ⌜ r ≡ shortestOf (now (w .entry)) j ⌝ }
+{
+    after(w, LENGTHS_AT, j)
+}
+
 fn wide64(x: u32) -> u64
     ensures { λ r. ⌜ r ≡ x ⌝ }
 {
@@ -141,13 +148,6 @@ fn pair(w: &[u32], i: usize) -> u64
     ensures { λ r. ⌜ Paired (now (w .entry)) i r ⌝ }
 {
     wide64(at(w, i)) + wide64(at(w, i + 1)) * 4294967296
-}
-
-// The nullable nonterminals, bit j for nonterminal number j.
-pub fn nullables(w: &[u32]) -> u64
-    ensures { λ r. ⌜ r ≡ nullablesOf (now (w .entry)) ⌝ }
-{
-    pair(w, NULLABLES_AT)
 }
 
 // Word j of the states that have a transition to state q, 64 states to a word.
@@ -178,11 +178,14 @@ pub fn precede(w: &mut [u32], q: u32, p: u32)
     w[i] = w[i] | (1 << (p % 32));
 }
 
-// Puts down the nullable nonterminals e.
-pub fn put_nullables(w: &mut [u32], e: u64)
-    requires { ⌜ occurrencesAt ≤ length (now w) ⌝ }
-    ensures { λ _. ⌜ Nulled (now (w .entry)) e (now (w .exit)) ⌝ }
+// Puts down the shortest lengths e of 60 nonterminals.
+pub fn put_lengths(w: &mut [u32], e: &[u16; 60])
+    requires { ⌜ halvesEnd ≤ length (now w) ⌝ }
+    ensures { λ _. ⌜ Measured (now (w .entry)) (now (e .entry)) 60 (now (w .exit)) ⌝ }
 {
-    put(w, NULLABLES_AT, 0, (e % 4294967296) as u32);
-    put(w, NULLABLES_AT, 1, (e / 4294967296) as u32);
+    let mut j: usize = 0;
+    while j < 60 {
+        w[LENGTHS_AT + j] = card::wider(e[j]);
+        j += 1;
+    }
 }

@@ -1,7 +1,10 @@
 //! The C functions under test. Where an archive is not linked, the reference's
-//! second way and its parser stand in.
+//! second way, its parser and lengths by rounds stand in.
 
 use reference::parser;
+
+#[cfg(not(lengths_archive))]
+use crate::lengths::faults;
 
 #[cfg(generator_archive)]
 pub const GENERATOR: &str = "archive";
@@ -12,6 +15,11 @@ pub const GENERATOR: &str = "stand-in";
 pub const PARSER: &str = "archive";
 #[cfg(not(parser_archive))]
 pub const PARSER: &str = "stand-in";
+
+#[cfg(lengths_archive)]
+pub const LENGTHS: &str = "archive";
+#[cfg(not(lengths_archive))]
+pub const LENGTHS: &str = "stand-in";
 
 #[cfg(generator_archive)]
 extern "C" {
@@ -86,6 +94,11 @@ extern "C" {
     );
 }
 
+#[cfg(lengths_archive)]
+extern "C" {
+    fn sidumza_shortest(card: *const u16, card_len: usize, out: *mut u16) -> u16;
+}
+
 /// Makes a table: card, table area, both work areas.
 pub type Generator = dyn Fn(&[u16], &mut [u16], &mut [u64], &mut [u32]) -> [u64; 5];
 
@@ -94,6 +107,9 @@ pub type Parser = dyn Fn(&[u16], &[u8], &mut [u16], &mut [u16], &mut [u16], u64)
 
 /// The same with a word of closed terminals behind the input.
 pub type Choir = dyn Fn(&[u16], &[u8], u64, &mut [u16], &mut [u16], &mut [u16], u64) -> [u64; 7];
+
+/// Gives the lengths of a card's nonterminals, or the number of its fault of form.
+pub type Shortest = dyn Fn(&[u16], &mut [u16; 60]) -> u16;
 
 /// Both calls of a parser: the publisher's and the choir's.
 #[derive(Clone, Copy)]
@@ -193,4 +209,14 @@ fn parse_restricted(
         );
     }
     out
+}
+
+#[cfg(lengths_archive)]
+pub fn shortest(card: &[u16], out: &mut [u16; 60]) -> u16 {
+    unsafe { sidumza_shortest(card.as_ptr(), card.len(), out.as_mut_ptr()) }
+}
+
+#[cfg(not(lengths_archive))]
+pub fn shortest(card: &[u16], out: &mut [u16; 60]) -> u16 {
+    faults::shortest(card, out, faults::Fault::None)
 }

@@ -378,7 +378,7 @@ fn long(random: &mut Random) -> Card {
 }
 
 /// Changes the numbers of a card so that a refusal from 4 to 9 applies, perhaps.
-fn damaged(random: &mut Random, numbers: &mut Vec<u16>) {
+pub fn damaged(random: &mut Random, numbers: &mut Vec<u16>) {
     let size = |numbers: &Vec<u16>, at: usize| numbers.get(at).map_or(0, |&n| n as usize);
     let (t, n) = (size(numbers, 0), size(numbers, 1));
     let (p, l) = (size(numbers, 2), size(numbers, 3));
@@ -462,7 +462,7 @@ fn end_or_any(random: &mut Random, count: usize) -> usize {
 
 /// Lengths of `p` right sides that add up to `l`: alike, as they come, or all in
 /// one of them.
-fn lengths(random: &mut Random, p: usize, l: usize) -> Vec<usize> {
+pub fn lengths(random: &mut Random, p: usize, l: usize) -> Vec<usize> {
     match random.below(3) {
         0 => (0..p).map(|at| l / p + usize::from(at < l % p)).collect(),
         1 => {

@@ -5,6 +5,7 @@
 //!     generator-tests self-check        requires that wrong generators and parsers are found
 //!     generator-tests reads-behind      dies: its generator looks at a symbol behind L
 //!     generator-tests sums              compares joins of completed families with the archive
+//!     generator-tests lengths           compares shortest lengths with the reference
 //!     generator-tests measure FILE..    prints sizes and times of stored cards
 //!     generator-tests climb WHAT FILE.. looks for cards with more WHAT: time, reads,
 //!                                       includes or edges
@@ -19,6 +20,7 @@ mod entered;
 #[rustfmt::skip]
 #[path = "../../reader/src/guarded.rs"]
 mod guarded;
+mod lengths;
 mod lookaheads;
 mod measure;
 mod offers;
@@ -268,13 +270,16 @@ fn main() -> ExitCode {
         ["self-check"] => self_check(seed, cards),
         ["reads-behind"] => reads_behind(seed, cards),
         ["sums"] => sums::sums(seed, setting("CARDS", 10_000)),
+        ["lengths"] => lengths::lengths(seed, cards),
         ["measure", _, ..] => measure::measure_files(&arguments[1..]),
         ["climb", what, _, ..] => {
             let mut random = Random::new(seed);
             measure::climb(&mut random, setting("SEARCH_SECONDS", 60), what, &arguments[2..])
         }
         _ => {
-            println!("random, self-check, reads-behind, sums, measure FILE.. or climb WHAT FILE..");
+            println!(
+                "random, self-check, reads-behind, sums, lengths, measure FILE.. or climb WHAT FILE.."
+            );
             false
         }
     };

@@ -8,6 +8,7 @@ use reference::automaton::{number, Automaton, Missing};
 use reference::card::{parse, Card};
 use reference::grammar::Grammar;
 use reference::lr0;
+use reference::shortest::{lengths, Length};
 
 use crate::abi::Generator;
 use crate::entered;
@@ -240,6 +241,14 @@ pub fn generators() -> Vec<Wrong> {
         by_automaton("nothing nullable", |grammar| {
             let mut other = Grammar::new(grammar.card.clone());
             other.nullable.fill(false);
+            lr0::automaton(&other)
+        }),
+        by_automaton("what derives one terminal taken as nullable", |grammar| {
+            let mut other = Grammar::new(grammar.card.clone());
+            let short = |length: &Option<Length>| length.is_some_and(|length| length <= 1);
+            let from = grammar.card.terminals;
+            other.nullable.truncate(from);
+            other.nullable.extend(lengths(&grammar.card)[from..].iter().map(short));
             lr0::automaton(&other)
         }),
         lookaheads("bit 63 lost", |_, _, set| set & (u64::MAX >> 1)),

@@ -25,7 +25,7 @@ fn settle(mut round: impl FnMut() -> bool) {
 }
 
 /// The symbols that derive a string of terminals, perhaps the empty one.
-fn productive(card: &Card) -> Vec<bool> {
+pub fn productive(card: &Card) -> Vec<bool> {
     let mut known: Vec<bool> = (0..card.symbols()).map(|s| card.is_terminal(s)).collect();
     settle(|| {
         let mut changed = false;

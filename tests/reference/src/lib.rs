@@ -19,4 +19,5 @@ pub mod lr0;
 pub mod lr1;
 pub mod parser;
 pub mod random;
+pub mod shortest;
 pub mod spans;

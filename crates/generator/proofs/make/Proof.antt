@@ -5,197 +5,143 @@ use borrow.Author.Needs.{needs}
 use Rattle.generator.proofs.make.Statement.{statement}
 use Rattle.generator.proofs.make.Tie as tie
 
-states-requires : tie.Need-states-requires
-states-requires c κs = search needs
+-- ---- the way back, from where the areas are known after the states on
 
-clear-requires : tie.Need-clear-requires
-clear-requires c κs = search needs
+abbrev z-of : tie.After-w → tie.After-z
+z-of w = w .before .before
 
-same-length : tie.Need-same-length
-same-length c = search needs
+abbrev t-of : tie.After-w → tie.After-t
+t-of w = z-of w .before .before
 
-same-length-2 : tie.Need-same-length-2
-same-length-2 c = search needs
+abbrev states-of : tie.After-w → tie.After-states
+states-of w = t-of w .before
 
-same-length-3 : tie.Need-same-length-3
-same-length-3 c = search needs
+abbrev start : tie.After-w → tie.Start
+start w = states-of w .before .before .before .before .before .before .before .before
+
+-- and on: 256 states at most, the lengths, the transitions, 2,048 of them at most, the walks
+abbrev few-of : tie.After-build → tie.Else1
+few-of b = b .before .before .before .before .before
+
+abbrev w-of : tie.After-build → tie.After-w
+w-of b = few-of b .before .before
+
+abbrev narrow-of : tie.After-walk → tie.Else2
+narrow-of k = k .before .before .before .before
+
+abbrev built-of : tie.After-walk → tie.After-build
+built-of k = narrow-of k .before .before .before
 
 returns : tie.Need-returns
 returns c =
-    let b6 = c .before .before .before .before .before .before in
-    let b10 = b6 .before .before .before .before in
-    let b12 = b10 .before .before in
-    let b14 = b12 .before .before in
-    let b16 = b14 .before .before in
-    let b17 = b16 .before in
-    let b25 = b17 .before .before .before .before .before .before .before .before in
-    eleven-met _ _ _ _ (b25 .pre .2) (b25 .pre .0) (b25 .pre .1) _ _ _ _ (b17 .states .ensures) (b16 .t .given) (b14 .z .given) (b12 .w .given) (b10 .if1 .taken) (b6 .clear .ensures)
-
-nullable-requires : tie.Need-nullable-requires
-nullable-requires c κs = search needs
-
-cast-build : tie.Need-cast-build
-cast-build c = search needs
+    let cleared = c .before .before .before .before .before .before in
+    let many = cleared .before .before .before .before in
+    let w = many .before .before in
+    eleven-met _ _ _ _ (start w .pre .2) (start w .pre .0) (start w .pre .1) _ _ _ _ (states-of w .states .ensures) (t-of w .t .given) (z-of w .z .given) (w .w .given) (many .if1 .taken) (cleared .clear .ensures)
 
 build-requires : tie.Need-build-requires
 build-requires c κs =
-    let b3 = c .before .before .before in
-    let b5 = b3 .before .before in
-    let b7 = b5 .before .before in
-    let b9 = b7 .before .before in
-    let b10 = b9 .before in
-    let b18 = b10 .before .before .before .before .before .before .before .before in
-    (b18 .pre .0, numbered-states _ _ _ _ (b18 .pre .2) (b18 .pre .0) (b18 .pre .1) _ _ _ _ (b10 .states .ensures) (b9 .t .given) (b7 .z .given) (b5 .w .given) (b3 .if1 .left), omega (arith, b18 .pre .2 .halves, b5 .w .given))
-
-clear-requires-2 : tie.Need-clear-requires-2
-clear-requires-2 c κs = search needs
-
-same-length-4 : tie.Need-same-length-4
-same-length-4 c = search needs
-
-same-length-5 : tie.Need-same-length-5
-same-length-5 c = search needs
-
-same-length-6 : tie.Need-same-length-6
-same-length-6 c = search needs
+    let few = c .before .before .before .before in
+    let w = few .before .before in
+    (start w .pre .0, numbered-states _ _ _ _ (start w .pre .2) (start w .pre .0) (start w .pre .1) _ _ _ _ (states-of w .states .ensures) (t-of w .t .given) (z-of w .z .given) (w .w .given) (few .if1 .left), omega (arith, start w .pre .2 .halves, w .w .given))
 
 returns-2 : tie.Need-returns-2
 returns-2 c =
-    let b6 = c .before .before .before .before .before .before in
-    let b10 = b6 .before .before .before .before in
-    let b13 = b10 .before .before .before in
-    let b17 = b13 .before .before .before .before in
-    let b19 = b17 .before .before in
-    let b21 = b19 .before .before in
-    let b23 = b21 .before .before in
-    let b24 = b23 .before in
-    let b32 = b24 .before .before .before .before .before .before .before .before in
-    twelve-met _ _ _ _ (b32 .pre .2) (b32 .pre .0) (b32 .pre .1) _ _ _ _ (b24 .states .ensures) (b23 .t .given) (b21 .z .given) (b19 .w .given) (b17 .if1 .left) _ _ _ (b13 .build .ensures) (b10 .if2 .taken) (b6 .clear2 .ensures)
-
-cast-walk : tie.Need-cast-walk
-cast-walk c = search needs
+    let cleared = c .before .before .before .before .before .before in
+    let wide = cleared .before .before .before .before in
+    let b = wide .before .before .before in
+    let w = w-of b in
+    twelve-met _ _ _ _ (start w .pre .2) (start w .pre .0) (start w .pre .1) _ _ _ _ (states-of w .states .ensures) (t-of w .t .given) (z-of w .z .given) (w .w .given) (few-of b .if1 .left) _ _ _ (b .build .ensures) (wide .if2 .taken) (cleared .clear2 .ensures)
 
 walk-requires : tie.Need-walk-requires
 walk-requires c κs =
-    let b3 = c .before .before .before in
-    let b6 = b3 .before .before .before in
-    let b10 = b6 .before .before .before .before in
-    let b12 = b10 .before .before in
-    let b14 = b12 .before .before in
-    let b16 = b14 .before .before in
-    let b17 = b16 .before in
-    let b25 = b17 .before .before .before .before .before .before .before .before in
-    (numbered-states _ _ _ _ (b25 .pre .2) (b25 .pre .0) (b25 .pre .1) _ _ _ _ (b17 .states .ensures) (b16 .t .given) (b14 .z .given) (b12 .w .given) (b10 .if1 .left), omega (arith, b25 .pre .2 .words, b14 .z .given), (_, b6 .build .ensures .holds (b3 .if2 .left)))
-
-cast-fill : tie.Need-cast-fill
-cast-fill c = search needs
+    let narrow = c .before .before .before in
+    let b = narrow .before .before .before in
+    let w = w-of b in
+    (numbered-states _ _ _ _ (start w .pre .2) (start w .pre .0) (start w .pre .1) _ _ _ _ (states-of w .states .ensures) (t-of w .t .given) (z-of w .z .given) (w .w .given) (few-of b .if1 .left), omega (arith, start w .pre .2 .words, z-of w .z .given), b .build .ensures .holds (narrow .if2 .left))
 
 fill-requires : tie.Need-fill-requires
 fill-requires c κs =
-    let b5 = c .before .before .before .before .before in
-    let b9 = b5 .before .before .before .before in
-    let b12 = b9 .before .before .before in
-    let b16 = b12 .before .before .before .before in
-    let b18 = b16 .before .before in
-    let b20 = b18 .before .before in
-    let b22 = b20 .before .before in
-    let b23 = b22 .before in
-    let b31 = b23 .before .before .before .before .before .before .before .before in
-    stage _ _ _ _ (b31 .pre .2) (b31 .pre .0) (b31 .pre .1) _ _ _ _ (b23 .states .ensures) (b22 .t .given) (b20 .z .given) (b18 .w .given) (b16 .if1 .left) _ _ _ (b12 .build .ensures) (b9 .if2 .left) _ (b5 .walk .ensures)
+    let k = c .before .before .before .before .before in
+    let b = built-of k in
+    let w = w-of b in
+    stage _ _ _ _ (start w .pre .2) (start w .pre .0) (start w .pre .1) _ _ _ _ (states-of w .states .ensures) (t-of w .t .given) (z-of w .z .given) (w .w .given) (few-of b .if1 .left) _ _ _ (b .build .ensures) (narrow-of k .if2 .left) _ (k .walk .ensures)
 
-enum-told : tie.Need-enum-told
-enum-told c = search needs
+-- the walks, from where the table area is known after the rows are filled
+abbrev z4-of : tie.After-t4 → tie.After-z4
+z4-of t4 = t4 .before .before .before .before .before .before
 
-enum-known-clash : tie.Need-enum-known-clash
-enum-known-clash c = search needs
+abbrev walk-of : tie.After-t4 → tie.After-walk
+walk-of t4 = z4-of t4 .before
 
 same-length-7 : tie.Need-same-length-7
-same-length-7 c = search needs
-
-same-length-8 : tie.Need-same-length-8
-same-length-8 c = search needs
-
-same-length-9 : tie.Need-same-length-9
-same-length-9 c = search needs
+same-length-7 c =
+    let t4 = c .before .before .before .before .before .before .before in
+    t4 .t4 .given ∙ t-of (w-of (built-of (walk-of t4))) .t .given
 
 returns-3 : tie.Need-returns-3
 returns-3 c =
-    let b8 = c .before .before .before .before .before .before .before .before in
-    let b14 = b8 .before .before .before .before .before .before in
-    let b18 = b14 .before .before .before .before in
-    let b21 = b18 .before .before .before in
-    let b24 = b21 .before .before .before in
-    let b25 = b24 .before in
-    let b27 = b25 .before .before in
-    let b29 = b27 .before .before in
-    let b31 = b29 .before .before in
-    let b32 = b31 .before in
-    let b40 = b32 .before .before .before .before .before .before .before .before in
-    table-met _ _ _ _ (b40 .pre .2) (b40 .pre .0) (b40 .pre .1) _ _ _ _ (b32 .states .ensures) (b31 .t .given) (b29 .z .given) (b27 .w .given) (b25 .if1 .left) _ _ _ (b21 .build .ensures) (b18 .if2 .left) _ (b14 .walk .ensures) (b24 .nullable .ensures) (rw (c .enum-told .given .1) at (b8 .fill .ensures))
+    let t4 = c .before .before .before .before .before .before .before in
+    let k = walk-of t4 in
+    let b = built-of k in
+    let w = w-of b in
+    table-met _ _ _ _ (start w .pre .2) (start w .pre .0) (start w .pre .1) _ _ _ _ (states-of w .states .ensures) (t-of w .t .given) (z-of w .z .given) (w .w .given) (few-of b .if1 .left) _ _ _ (b .build .ensures) (narrow-of k .if2 .left) _ (k .walk .ensures)
+    (b .before .before .before .before .shortest .ensures) (rw (c .enum-told .given .1) at (t4 .before .fill .ensures))
 
 same-length-10 : tie.Need-same-length-10
 same-length-10 c =
-    let b8 = c .before .before .before .before .before .before .before .before in
-    let b32 = b8 .before .before .before .before .before .before .before .before .before .before .before .before .before .before .before .before .before .before .before .before .before .before .before .before in
-    b8 .t4 .given ∙ b32 .t .given
+    let t4 = c .before .before .before .before .before .before .before .before in
+    t4 .t4 .given ∙ t-of (w-of (built-of (walk-of t4))) .t .given
 
 same-length-11 : tie.Need-same-length-11
 same-length-11 c =
-    let b4 = c .before .before .before .before in
-    let b14 = b4 .before .before .before .before .before .before .before .before .before .before in
-    let b30 = b14 .before .before .before .before .before .before .before .before .before .before .before .before .before .before .before .before in
-    b4 .z5 .given ∙ b14 .z4 .given ∙ b30 .z .given
+    let z5 = c .before .before .before .before in
+    let t4 = z5 .before .before .before .before in
+    z5 .z5 .given ∙ (z4-of t4 .z4 .given ∙ z-of (w-of (built-of (walk-of t4))) .z .given)
 
 same-length-12 : tie.Need-same-length-12
 same-length-12 c =
-    let b6 = c .before .before .before .before .before .before in
-    let b21 = b6 .before .before .before .before .before .before .before .before .before .before .before .before .before .before .before in
-    let b28 = b21 .before .before .before .before .before .before .before in
-    b6 .w5 .given ∙ b21 .w3 .given ∙ b28 .w .given
+    let w5 = c .before .before .before .before .before .before in
+    let k = walk-of (w5 .before .before) in
+    w5 .w5 .given ∙ (narrow-of k .before .before .w3 .given ∙ w-of (built-of k) .w .given)
 
 returns-4 : tie.Need-returns-4
 returns-4 c =
-    let b1 = c .before in
-    let b9 = b1 .before .before .before .before .before .before .before .before in
-    let b15 = b9 .before .before .before .before .before .before in
-    let b19 = b15 .before .before .before .before in
-    let b22 = b19 .before .before .before in
-    let b25 = b22 .before .before .before in
-    let b26 = b25 .before in
-    let b28 = b26 .before .before in
-    let b30 = b28 .before .before in
-    let b32 = b30 .before .before in
-    let b33 = b32 .before in
-    let b41 = b33 .before .before .before .before .before .before .before .before in
-    conflict-met _ _ _ _ (b41 .pre .2) (b41 .pre .0) (b41 .pre .1) _ _ _ _ (b33 .states .ensures) (b32 .t .given) (b30 .z .given) (b28 .w .given) (b26 .if1 .left) _ _ _ (b22 .build .ensures) (b19 .if2 .left) _ (b15 .walk .ensures) (b25 .nullable .ensures) _ _ _ _ (rw (b1 .clash .given .1) at (b9 .fill .ensures))
+    let told = c .before in
+    let t4 = told .before .before .before .before .before .before .before in
+    let k = walk-of t4 in
+    let b = built-of k in
+    let w = w-of b in
+    conflict-met _ _ _ _ (start w .pre .2) (start w .pre .0) (start w .pre .1) _ _ _ _ (states-of w .states .ensures) (t-of w .t .given) (z-of w .z .given) (w .w .given) (few-of b .if1 .left) _ _ _ (b .build .ensures) (narrow-of k .if2 .left) _ (k .walk .ensures)
+    (b .before .before .before .before .shortest .ensures) _ _ _ _ (rw (told .clash .given .1) at (t4 .before .fill .ensures))
 
 pub make-spec : {M : Type 1} → statement M
 make-spec =
     tie.close
     (tie.spec
-    states-requires
-    clear-requires
-    same-length
-    same-length-2
-    same-length-3
+    (λ c κs. search needs)
+    (λ c κs. search needs)
+    (λ c. search needs)
+    (λ c. search needs)
+    (λ c. search needs)
     returns
-    nullable-requires
-    cast-build
+    (λ c κs. search needs)
+    (λ c. search needs)
     build-requires
-    clear-requires-2
-    same-length-4
-    same-length-5
-    same-length-6
+    (λ c κs. search needs)
+    (λ c. search needs)
+    (λ c. search needs)
+    (λ c. search needs)
     returns-2
-    cast-walk
+    (λ c. search needs)
     walk-requires
-    cast-fill
+    (λ c. search needs)
     fill-requires
-    enum-told
-    enum-known-clash
+    (λ c. search needs)
+    (λ c. search needs)
     same-length-7
-    same-length-8
-    same-length-9
+    (λ c. search needs)
+    (λ c. search needs)
     returns-3
     same-length-10
     same-length-11

@@ -15,7 +15,7 @@ complete-requires c κs =
     let b1 = c .before in
     let b4 = b1 .before .before .before in
     let b10 = b4 .before .before .before .before .before .before in
-    let d = b10 .pre .2 .1 in let r = walk-ready _ _ _ _ _ _ _ d (b1 .wide32 .ensures) in (r .0, r .1, omega (arith, b10 .pre .1, b4 .direct .ensures .long))
+    let r = walk-ready _ _ _ _ _ _ (b10 .pre .2) (b1 .wide32 .ensures) in (r .0, r .1, omega (arith, b10 .pre .1, b4 .direct .ensures .long))
 
 complete-requires-2 : tie.Need-complete-requires-2
 complete-requires-2 c κs =
@@ -23,7 +23,7 @@ complete-requires-2 c κs =
     let b5 = b3 .before .before in
     let b8 = b5 .before .before .before in
     let b14 = b8 .before .before .before .before .before .before in
-    let d = b14 .pre .2 .1 in let r = walk-ready _ _ _ _ _ _ _ d (b5 .wide32 .ensures) in (r .0, r .1, omega (arith, b14 .pre .1, b8 .direct .ensures .long, b3 .complete .ensures .size))
+    let r = walk-ready _ _ _ _ _ _ (b14 .pre .2) (b5 .wide32 .ensures) in (r .0, r .1, omega (arith, b14 .pre .1, b8 .direct .ensures .long, b3 .complete .ensures .size))
 
 same-length : tie.Need-same-length
 same-length c = search needs

@@ -14,10 +14,10 @@ use Rattle.nonterminals.proofs.right.Statement.{statement}
 use Rattle.nonterminals.proofs.right.Tie as tie
 
 abbrev Inv-loop : tie.InvT-loop
-Inv-loop c t r s n v₀ d₀ v d = (v ≡ joinOf c t (each d (λ i. symbolOf c (startOf c r + i) ∷ []))) × (d ≤ n)
+Inv-loop c r s n v₀ d₀ v d = (v ≡ joinOf c (each d (λ i. symbolOf c (startOf c r + i) ∷ []))) × (d ≤ n)
 
 abbrev μ-loop : tie.MeasureT-loop
-μ-loop c t r s n v₀ d₀ v d = n - d
+μ-loop c r s n v₀ d₀ v d = n - d
 
 length-requires : tie.Need-length-requires Inv-loop μ-loop
 length-requires c κs = search needs

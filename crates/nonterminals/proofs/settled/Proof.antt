@@ -7,16 +7,16 @@ use Rattle.nonterminals.proofs.settled.Statement.{statement}
 use Rattle.nonterminals.proofs.settled.Tie as tie
 
 abbrev Inv-loop : tie.InvT-loop
-Inv-loop c kind w v₀ v = Within w v × Sound c kind v
+Inv-loop c kind v w t₀ t = Within w t × Sound c kind t
 
 abbrev μ-loop : tie.MeasureT-loop
-μ-loop c kind w v₀ v = 2 ^ nonterminals c - v
+μ-loop c kind v w t₀ t = 2 ^ nonterminals c - t
 
 loop-holds : tie.Need-loop-holds Inv-loop μ-loop
-loop-holds c = (λ m e. e, c .before .pre .1)
+loop-holds c = (λ m e. e, c .before .pre .2)
 
 round-requires : tie.Need-round-requires Inv-loop μ-loop
-round-requires c κs = (c .before .before .pre .0, c .loop .inv .1)
+round-requires c κs = (c .before .before .pre .0, c .before .before .pre .1, c .loop .inv .1)
 
 returns : tie.Need-returns Inv-loop μ-loop
 returns c = record { more = c .before .before .loop .inv .0; still = rw (c .if1 .taken) at (c .before .round .ensures) }

@@ -14,7 +14,7 @@ terminals-requires c κs = search needs
 returns : tie.Need-returns
 returns c =
     let args = c .before .before .before .args in
-    sym (word-terminal (now (args .c)) (args .t) (args .x) (omega (arith, c .if1 .taken, c .before .terminals .ensures)))
+    sym (word-terminal (now (args .c)) (args .x) (omega (arith, c .if1 .taken, c .before .terminals .ensures)))
 
 cast-result : tie.Need-cast-result
 cast-result c = search needs
@@ -29,7 +29,7 @@ returns-2 c =
     let args = c .before .before .before .args in
     let w = well-formed _ (c .before .before .before .pre .0) in
     let e = c .before .terminals .ensures in
-    rw (word-nonterminal (now (args .c)) (args .t) (args .x) (omega (arith, c .if1 .left, e)), ← e)
+    rw (word-nonterminal (now (args .c)) (args .x) (omega (arith, c .if1 .left, e)), ← e)
     (one-shl 64 _ (omega (arith, w .limits .nonterminals-to, c .if1 .left, e, c .before .before .before .pre .1)))
 
 pub word-spec : {M : Type 1} → statement M

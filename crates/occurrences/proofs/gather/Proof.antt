@@ -6,18 +6,19 @@ use lib.ListN.{length, getD}
 use denote.Ref.{now}
 use Rattle.grammar.specs.Card.{productions, lengthOf, startOf}
 use Rattle.grammar.proofs.CardLaws.{well-formed}
-use Rattle.transitions.specs.Places.{nullablesAt}
+use Rattle.transitions.specs.Places.{occurrencesAt}
+use Rattle.transitions.specs.Area.{shortestOf}
 use Rattle.transitions.proofs.SymbolLaws.{right-fits, start-more}
 use Rattle.occurrences.specs.Gathers.{Gathered, Started}
-use Rattle.occurrences.proofs.GatherLaws.{below, store-start, store-high, started-more, gather-next, gather-end}
+use Rattle.occurrences.proofs.GatherLaws.{below, store-high, store-start, store-tail, started-more, gather-end}
 use Rattle.occurrences.proofs.gather.Statement.{statement}
 use Rattle.occurrences.proofs.gather.Tie as tie
 
 abbrev Inv-loop : tie.InvT-loop
-Inv-loop c w₀ e p s₀ m₀ r₀ w s m r = (r ≤ p) × (s ≡ startOf c r) × Gathered c e w r (lengthOf c r) m × Started c w r × (length w ≡ length w₀) × ((i : ℕ) → nullablesAt ≤ i → getD w i 0 ≡ getD w₀ i 0)
+Inv-loop c w₀ p s₀ m₀ r₀ w s m r = (r ≤ p) × (s ≡ startOf c r) × Gathered c (shortestOf w₀) w r (lengthOf c r) m × Started c w r × (length w ≡ length w₀) × ((i : ℕ) → occurrencesAt ≤ i → getD w i 0 ≡ getD w₀ i 0)
 
 abbrev μ-loop : tie.MeasureT-loop
-μ-loop c w₀ e p s₀ m₀ r₀ w s m r = p - r
+μ-loop c w₀ p s₀ m₀ r₀ w s m r = p - r
 
 loop-holds : tie.Need-loop-holds Inv-loop μ-loop
 unfolding startOf
@@ -27,51 +28,47 @@ loop-holds c =
 
 put-requires : tie.Need-put-requires Inv-loop μ-loop
 put-requires c κs =
-    let pre = c .before .before .before .before .before .before .before .pre in
-    let productions′ = c .before .before .before .before .productions in
-    let loop = c .before .before .before .loop in
-    let l = well-formed _ (pre .0) .limits .productions-to in omega (arith, productions′ .ensures, loop .inv .4, pre .1, c .wider .ensures)
+    let turn = c .before .before .before in
+    let pre = turn .before .before .before .before .pre in
+    let l = well-formed _ (pre .0) .limits .productions-to in omega (arith, turn .before .productions .ensures, turn .loop .inv .4, pre .1, c .wider .ensures)
 
 tail-requires : tie.Need-tail-requires Inv-loop μ-loop
 tail-requires c κs =
-    let pre = c .before .before .before .before .before .before .before .before .before .before .before .pre in
-    let productions′ = c .before .before .before .before .before .before .before .before .productions in
-    let loop = c .before .before .before .before .before .before .before .loop in
-    let loop-test = c .before .before .before .before .before .before .loop-test in
-    let wider = c .before .before .before .before .wider in
-    let put = c .before .before .before .put in
+    let stored = c .before .before .before in
+    let put = stored .put .ensures in
+    let turn = stored .before .before .before .before in
+    let inv = turn .loop .inv in
+    let start = turn .before .before .before .before in
+    let pre = start .pre in
     let l = well-formed _ (pre .0) .limits .productions-to in
-    let h = below _ _ _ (productions′ .ensures) (loop-test .taken) in
-    (pre .0, h, loop .inv .1, omega (arith, put .ensures .long, loop .inv .4, pre .1), store-start _ _ _ _ _ _ (wider .ensures) (omega arith) (put .ensures) _ _ (loop .inv .2))
+    let h = below _ _ _ (turn .before .productions .ensures) (stored .before .before .before .loop-test .taken) in
+    (pre .0, h, inv .1, omega (arith, put .long, inv .4, pre .1), store-start _ _ _ _ _ _ (stored .before .wider .ensures) (omega arith) put (now (start .args .w)) (inv .5) _ (inv .2))
 
 add-s : tie.Need-add-s Inv-loop μ-loop
 add-s c =
-    let pre = c .before .before .before .before .before .before .before .before .before .before .before .before .before .before .before .before .pre in
-    let productions′ = c .before .before .before .before .before .before .before .before .before .before .before .before .before .productions in
-    let loop = c .before .before .before .before .before .before .before .before .before .before .before .before .loop in
-    let loop-test = c .before .before .before .before .before .before .before .before .before .before .before .loop-test in
-    let length′ = c .before .length in
-    let f = right-fits _ (loop .r) (pre .0) (below _ _ _ (productions′ .ensures) (loop-test .taken)) in omega (arith, loop .inv .1, c .wider2 .ensures, length′ .ensures)
+    let stored = c .before .before .before .before .before .before .before .before in
+    let turn = stored .before .before .before .before in
+    let pre = turn .before .before .before .before .pre in
+    let h = below _ _ _ (turn .before .productions .ensures) (stored .before .before .before .loop-test .taken) in
+    let f = right-fits _ (turn .loop .r) (pre .0) h in omega (arith, turn .loop .inv .1, c .wider2 .ensures, c .before .length .ensures)
 
 loop-again : tie.Need-loop-again Inv-loop μ-loop
 loop-again c =
-    let args = c .before .before .before .before .before .before .before .before .before .before .before .before .before .before .before .before .args in
-    let pre = c .before .before .before .before .before .before .before .before .before .before .before .before .before .before .before .before .pre in
-    let productions′ = c .before .before .before .before .before .before .before .before .before .before .before .before .before .productions in
-    let loop = c .before .before .before .before .before .before .before .before .before .before .before .before .loop in
-    let loop-test = c .before .before .before .before .before .before .before .before .before .before .before .loop-test in
-    let wider = c .before .before .before .before .before .before .before .before .before .wider in
-    let put = c .before .before .before .before .before .before .before .before .put in
-    let tail = c .before .before .before .before .tail in
-    let length′ = c .before .length in
-    let l = well-formed _ (pre .0) .limits .productions-to in
-    let h = below _ _ _ (productions′ .ensures) (loop-test .taken) in (
+    let tail = c .before .before .before .before .tail .ensures in
+    let stored = c .before .before .before .before .before .before .before .before in
+    let put = stored .put .ensures in
+    let wider = stored .before .wider .ensures in
+    let turn = stored .before .before .before .before in
+    let loop = turn .loop in
+    let start = turn .before .before .before .before in
+    let l = well-formed _ (start .pre .0) .limits .productions-to in
+    let h = below _ _ _ (turn .before .productions .ensures) (stored .before .before .before .loop-test .taken) in (
       omega arith,
-      start-more _ _ _ _ (loop .inv .1) (c .wider2 .ensures ∙ length′ .ensures),
-      gather-next _ _ _ _ _ _ (tail .ensures .0) refl,
-      started-more _ _ _ _ _ _ (wider .ensures) (omega arith) (put .ensures) _ (loop .inv .1) (tail .ensures .1) (loop .inv .3),
-      tail .ensures .1 .long ∙ put .ensures .long ∙ loop .inv .4,
-      λ i g. tail .ensures .1 .high i g ∙ store-high (now (args .c)) (loop .w) _ (loop .r) (loop .s) _ (wider .ensures) (omega arith) (put .ensures) i g ∙ loop .inv .5 i g,
+      start-more _ _ _ _ (loop .inv .1) (c .wider2 .ensures ∙ c .before .length .ensures),
+      store-tail _ _ _ _ _ _ wider (omega arith) put (now (start .args .w)) (loop .inv .5) _ _ (tail .0),
+      started-more _ _ _ _ _ _ wider (omega arith) put _ (loop .inv .1) (tail .1) (loop .inv .3),
+      tail .1 .long ∙ put .long ∙ loop .inv .4,
+      λ i g. tail .1 .high i g ∙ store-high (now (start .args .c)) (loop .w) _ (loop .r) (loop .s) _ wider (omega arith) put i g ∙ loop .inv .5 i g,
     )
 
 same-length : tie.Need-same-length Inv-loop μ-loop

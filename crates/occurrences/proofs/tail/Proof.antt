@@ -2,150 +2,130 @@ use Rattle.occurrences.proofs.GatherLaws.{tail-number, tail-split, gath
 use borrow.Author.Needs.{needs}
 use mathlib.Core.Path.{_≡_, _∙_}
 use native.Mathlib.Omega.{arith}
-use Prim.Native.Nat.{_-_, _≤_}
+use Prim.Native.Nat.{_+_, _-_, _≤_, _<_}
 use denote.Ref.{now}
-use Rattle.grammar.specs.Card.{lengthOf}
+use Rattle.grammar.specs.Card.{terminals, lengthOf}
 use Rattle.grammar.proofs.CardLaws.{well-formed}
+use Rattle.transitions.specs.Places.{lengthsAt}
+use Rattle.transitions.specs.Area.{shortestOf}
+use Rattle.transitions.specs.Occurrences.{symbolAt}
 use Rattle.transitions.proofs.SymbolLaws.{symbol-is, symbol-high, right-fits}
 use Rattle.occurrences.specs.Gathers.{Gathered, Between}
 use Rattle.occurrences.proofs.tail.Statement.{statement}
 use Rattle.occurrences.proofs.tail.Tie as tie
 
 abbrev Inv-loop : tie.InvT-loop
-Inv-loop c w₀ e r s m t d₀ k₀ w d k = (d ≤ lengthOf c r) × Gathered c e w r d k × NullFrom c e r d × Between w₀ w
+Inv-loop c w₀ r s m t d₀ k₀ w d k = (d ≤ lengthOf c r) × Gathered c (shortestOf w₀) w r d k × NullFrom c (shortestOf w₀) r d × Between w₀ w
 
 abbrev μ-loop : tie.MeasureT-loop
-μ-loop c w₀ e r s m t d₀ k₀ w d k = d
-
-terminals-requires : tie.Need-terminals-requires Inv-loop μ-loop
-terminals-requires c κs = search needs
-
-wider-requires : tie.Need-wider-requires Inv-loop μ-loop
-wider-requires c κs = search needs
-
-length-requires : tie.Need-length-requires Inv-loop μ-loop
-length-requires c κs = search needs
-
-wider-requires-2 : tie.Need-wider-requires-2 Inv-loop μ-loop
-wider-requires-2 c κs = search needs
+μ-loop c w₀ r s m t d₀ k₀ w d k = d
 
 loop-holds : tie.Need-loop-holds Inv-loop μ-loop
 loop-holds c =
-    let args = c .before .before .before .before .before .before .args in
-    let pre = c .before .before .before .before .before .before .pre in
-    let length′ = c .before .length in
-    let wider2 = c .wider2 in
-    let l : wider2 .result ≡ lengthOf (now (args .c)) (args .r) = wider2 .ensures ∙ length′ .ensures in
-    (omega arith, rw l (pre .4), (λ i h g. absurd (let z : ⊥ = omega arith in z)), between-here _)
-
-sub-d : tie.Need-sub-d Inv-loop μ-loop
-sub-d c = search needs
+    let start = c .before .before .before .before .before .before in
+    let l : c .wider2 .result ≡ lengthOf (now (start .args .c)) (start .args .r) = c .wider2 .ensures ∙ c .before .length .ensures in
+    (omega arith, rw l (start .pre .4), (λ i h g. absurd (let z : ⊥ = omega arith in z)), between-here _)
 
 add-symbol : tie.Need-add-symbol Inv-loop μ-loop
 add-symbol c =
-    let args = c .before .before .before .before .before .before .before .before .args in
-    let pre = c .before .before .before .before .before .before .before .before .pre in
     let loop = c .before .loop in
-    let f = right-fits _ (args .r) (pre .0) (pre .1) in omega (arith, pre .2, loop .inv .0)
-
-symbol-requires : tie.Need-symbol-requires Inv-loop μ-loop
-symbol-requires c κs = search needs
-
-wider-requires-3 : tie.Need-wider-requires-3 Inv-loop μ-loop
-wider-requires-3 c κs = search needs
+    let start = c .before .before .before .before .before .before .before .before in
+    let f = right-fits _ (start .args .r) (start .pre .0) (start .pre .1) in
+    omega (arith, start .pre .2, loop .inv .0)
 
 same-length : tie.Need-same-length Inv-loop μ-loop
 same-length c = c .before .before .before .before .loop .inv .3 .long
 
 returns : tie.Need-returns Inv-loop μ-loop
 returns c =
-    let pre = c .before .before .before .before .before .before .before .before .before .before .before .pre in
-    let terminals′ = c .before .before .before .before .before .before .before .before .terminals in
-    let wider = c .before .before .before .before .before .before .before .wider in
-    let loop = c .before .before .before .before .loop in
-    let loop-test = c .before .before .before .loop-test in
-    let symbol′ = c .before .before .symbol in
-    let wider3 = c .before .wider3 in
-    (tail-terminal _ _ _ _ (loop-test .taken) (loop .inv .0) _ _ _ (loop .inv .1) (symbol-is _ _ _ _ _ (pre .2) (wider3 .ensures ∙ symbol′ .ensures)) (omega (arith, wider .ensures, terminals′ .ensures)), loop .inv .3)
-
-wider-requires-4 : tie.Need-wider-requires-4 Inv-loop μ-loop
-wider-requires-4 c κs = search needs
+    let symbol-read = c .before .before in
+    let loop-test = symbol-read .before .loop-test in
+    let turn = symbol-read .before .before in
+    let inv = turn .loop .inv in
+    let named = turn .before .before .before in
+    let pre = named .before .before .before .before .pre in
+    let x = symbol-is _ _ _ _ _ (pre .2) (c .before .wider3 .ensures ∙ symbol-read .symbol .ensures) in
+    (tail-terminal _ _ _ _ (loop-test .taken) (inv .0) _ _ _ (inv .1) x (omega (arith, named .wider .ensures, named .before .terminals .ensures)), inv .3)
 
 occur-requires : tie.Need-occur-requires Inv-loop μ-loop
 occur-requires c κs =
-    let args = c .before .before .before .before .before .before .before .before .before .before .before .before .before .args in
-    let pre = c .before .before .before .before .before .before .before .before .before .before .before .before .before .pre in
-    let terminals′ = c .before .before .before .before .before .before .before .before .before .before .terminals in
-    let wider = c .before .before .before .before .before .before .before .before .before .wider in
-    let loop = c .before .before .before .before .before .before .loop in
-    let loop-test = c .before .before .before .before .before .loop-test in
-    let symbol′ = c .before .before .before .before .symbol in
-    let wider3 = c .before .before .before .wider3 in
-    let f = right-fits _ (args .r) (pre .0) (pre .1) in
-    let x = symbol-is _ _ _ _ _ (pre .2) (wider3 .ensures ∙ symbol′ .ensures) in
-    let b = symbol-high _ _ _ (pre .0) (pre .1) (tail-inside _ _ (loop-test .taken) (loop .inv .0)) in
+    let symbol-read = c .before .before .before .before in
+    let loop-test = symbol-read .before .loop-test in
+    let turn = symbol-read .before .before in
+    let inv = turn .loop .inv in
+    let named = turn .before .before .before in
+    let start = named .before .before .before .before in
+    let pre = start .pre in
+    let f = right-fits _ (start .args .r) (pre .0) (pre .1) in
+    let x = symbol-is _ _ _ _ _ (pre .2) (c .before .before .before .wider3 .ensures ∙ symbol-read .symbol .ensures) in
+    let b = symbol-high _ _ _ (pre .0) (pre .1) (tail-inside _ _ (loop-test .taken) (inv .0)) in
     let l = well-formed _ (pre .0) .limits .nonterminals-to in
-    let m = loop .inv .1 .most in
-    (omega arith, omega (arith, x, wider .ensures, terminals′ .ensures), omega (arith, pre .3, loop .inv .3 .long))
+    let m = inv .1 .most in
+    (omega arith, omega (arith, x, named .wider .ensures, named .before .terminals .ensures), omega (arith, pre .3, inv .3 .long))
 
 add-k : tie.Need-add-k Inv-loop μ-loop
 add-k c =
-    let args = c .before .before .before .before .before .before .before .before .before .before .before .before .before .before .before .before .args in
-    let pre = c .before .before .before .before .before .before .before .before .before .before .before .before .before .before .before .before .pre in
-    let loop = c .before .before .before .before .before .before .before .before .before .loop in
-    let f = right-fits _ (args .r) (pre .0) (pre .1) in let m = loop .inv .1 .most in omega arith
-
-has-requires : tie.Need-has-requires Inv-loop μ-loop
-has-requires c κs = search needs
+    let symbol-read = c .before .before .before .before .before .before .before in
+    let turn = symbol-read .before .before in
+    let start = turn .before .before .before .before .before .before .before in
+    let f = right-fits _ (start .args .r) (start .pre .0) (start .pre .1) in
+    let m = turn .loop .inv .1 .most in
+    omega arith
 
 same-length-2 : tie.Need-same-length-2 Inv-loop μ-loop
 same-length-2 c =
-    let loop = c .before .before .before .before .before .before .before .before .before .before .before .loop in
-    let occur = c .before .before .before .before .occur in
-    omega (arith, occur .ensures .long, loop .inv .3 .long)
+    let put-down = c .before .before .before .before .before in
+    let turn = put-down .before .before .before .before .before .before .before in
+    omega (arith, put-down .occur .ensures .long, turn .loop .inv .3 .long)
+
+-- ---- behind an occurrence that is put down
+
+-- the way back from it: to the loop, to where the terminals are known, and to the start
+abbrev turn : tie.After-occur Inv-loop μ-loop → tie.At-loop Inv-loop μ-loop
+turn p = p .before .before .before .before .before .before .before
+
+abbrev known : tie.After-occur Inv-loop μ-loop → tie.After-wider Inv-loop μ-loop
+known p = turn p .before .before .before
+
+abbrev start : tie.After-occur Inv-loop μ-loop → tie.Start Inv-loop μ-loop
+start p = known p .before .before .before .before
+
+symbol-here : (p : tie.After-occur Inv-loop μ-loop) → p .before .before .before .before .wider3 .result ≡ symbolAt (now (start p .args .c)) (start p .args .r) (turn p .loop .d - 1)
+symbol-here p =
+    let symbol-read = p .before .before .before .before .before in
+    symbol-is _ _ _ _ _ (start p .pre .2) (p .before .before .before .before .wider3 .ensures ∙ symbol-read .symbol .ensures)
+
+terminals-here : (p : tie.After-occur Inv-loop μ-loop) → known p .wider .result ≡ terminals (now (start p .args .c))
+terminals-here p = known p .wider .ensures ∙ known p .before .terminals .ensures
+
+some-left : (p : tie.After-occur Inv-loop μ-loop) → 0 < turn p .loop .d
+some-left p = p .before .before .before .before .before .before .loop-test .taken
+
+between : (p : tie.After-occur Inv-loop μ-loop) → Between (now (start p .args .w)) (p .occur .last .0)
+between p = between-step _ _ _ _ _ _ _ (turn p .loop .inv .3) (p .occur .ensures)
+
+gathered : (p : tie.After-occur Inv-loop μ-loop) → Gathered (now (start p .args .c)) (shortestOf (now (start p .args .w))) (p .occur .last .0) (start p .args .r) (turn p .loop .d - 1) (turn p .loop .k + 1)
+gathered p =
+    let inv = turn p .loop .inv in
+    let pre = start p .pre in
+    let x = symbol-here p in
+    let t = terminals-here p in
+    let left = p .before .before .before .if1 .left in
+    let number = tail-number _ _ _ _ _ t left x (symbol-high _ _ _ (pre .0) (pre .1) (tail-inside _ _ (some-left p) (inv .0))) in
+    let occurs = tail-occurs _ _ _ _ (some-left p) (inv .0) _ (pre .1) (inv .2) x (omega (arith, t)) in
+    gather-more _ _ _ _ _ _ (inv .1) _ (well-formed _ (pre .0) .limits .nonterminals-to) (some-left p) (inv .0) _ number (tail-split _ _ _ _ _ t left x) occurs (rw (p .before .wider4 .ensures) at (p .occur .ensures))
 
 returns-2 : tie.Need-returns-2 Inv-loop μ-loop
 returns-2 c =
-    let pre = c .before .before .before .before .before .before .before .before .before .before .before .before .before .before .before .before .before .before .pre in
-    let terminals′ = c .before .before .before .before .before .before .before .before .before .before .before .before .before .before .before .terminals in
-    let wider = c .before .before .before .before .before .before .before .before .before .before .before .before .before .before .wider in
-    let loop = c .before .before .before .before .before .before .before .before .before .before .before .loop in
-    let loop-test = c .before .before .before .before .before .before .before .before .before .before .loop-test in
-    let symbol′ = c .before .before .before .before .before .before .before .before .before .symbol in
-    let wider3 = c .before .before .before .before .before .before .before .before .wider3 in
-    let if1 = c .before .before .before .before .before .before .before .if1 in
-    let wider4 = c .before .before .before .before .before .wider4 in
-    let occur = c .before .before .before .before .occur in
-    let x = symbol-is _ _ _ _ _ (pre .2) (wider3 .ensures ∙ symbol′ .ensures) in
-    let t = wider .ensures ∙ terminals′ .ensures in
-    let inside = tail-inside _ _ (loop-test .taken) (loop .inv .0) in
-    let number = tail-number _ _ _ _ _ t (if1 .left) x (symbol-high _ _ _ (pre .0) (pre .1) inside) in
-    let occurs = tail-occurs _ _ _ _ (loop-test .taken) (loop .inv .0) _ (pre .1) (loop .inv .2) x (omega (arith, wider .ensures, terminals′ .ensures)) in
-    let gathered = gather-more _ _ _ _ _ _ (loop .inv .1) _ (well-formed _ (pre .0) .limits .nonterminals-to) (loop-test .taken) (loop .inv .0) _ number (tail-split _ _ _ _ _ t (if1 .left) x) occurs (rw (wider4 .ensures) at (occur .ensures)) in
-    (tail-last _ _ _ _ (loop-test .taken) (loop .inv .0) _ _ _ _ _ gathered x t (c .before .has .ensures) (c .if2 .taken), between-step _ _ _ _ _ _ _ (loop .inv .3) (occur .ensures))
-
-loop-less : tie.Need-loop-less Inv-loop μ-loop
-loop-less c = search needs
+    let p = c .before .before .before .before .before in
+    (tail-last _ _ _ _ (some-left p) (turn p .loop .inv .0) _ _ _ _ _ (gathered p) (symbol-here p) (terminals-here p) (c .before .shortest-length .ensures ∙ between p .high (lengthsAt + _) (omega arith)) (omega arith), between p)
 
 loop-again : tie.Need-loop-again Inv-loop μ-loop
 loop-again c =
-    let pre = c .before .before .before .before .before .before .before .before .before .before .before .before .before .before .before .before .before .before .pre in
-    let terminals′ = c .before .before .before .before .before .before .before .before .before .before .before .before .before .before .before .terminals in
-    let wider = c .before .before .before .before .before .before .before .before .before .before .before .before .before .before .wider in
-    let loop = c .before .before .before .before .before .before .before .before .before .before .before .loop in
-    let loop-test = c .before .before .before .before .before .before .before .before .before .before .loop-test in
-    let symbol′ = c .before .before .before .before .before .before .before .before .before .symbol in
-    let wider3 = c .before .before .before .before .before .before .before .before .wider3 in
-    let if1 = c .before .before .before .before .before .before .before .if1 in
-    let wider4 = c .before .before .before .before .before .wider4 in
-    let occur = c .before .before .before .before .occur in
-    let x = symbol-is _ _ _ _ _ (pre .2) (wider3 .ensures ∙ symbol′ .ensures) in
-    let t = wider .ensures ∙ terminals′ .ensures in
-    let inside = tail-inside _ _ (loop-test .taken) (loop .inv .0) in
-    let number = tail-number _ _ _ _ _ t (if1 .left) x (symbol-high _ _ _ (pre .0) (pre .1) inside) in
-    let occurs = tail-occurs _ _ _ _ (loop-test .taken) (loop .inv .0) _ (pre .1) (loop .inv .2) x (omega (arith, wider .ensures, terminals′ .ensures)) in
-    let gathered = gather-more _ _ _ _ _ _ (loop .inv .1) _ (well-formed _ (pre .0) .limits .nonterminals-to) (loop-test .taken) (loop .inv .0) _ number (tail-split _ _ _ _ _ t (if1 .left) x) occurs (rw (wider4 .ensures) at (occur .ensures)) in
-    (omega arith, gathered, tail-null _ _ _ _ (loop-test .taken) (loop .inv .0) _ _ _ (loop .inv .2) x t (if1 .left) (c .before .has .ensures) (c .if2 .left), between-step _ _ _ _ _ _ _ (loop .inv .3) (occur .ensures))
+    let p = c .before .before .before .before .before in
+    let inv = turn p .loop .inv in
+    let left = p .before .before .before .if1 .left in
+    (omega arith, gathered p, tail-null _ _ _ _ (some-left p) (inv .0) _ _ _ (inv .2) (symbol-here p) (terminals-here p) left (c .before .shortest-length .ensures ∙ between p .high (lengthsAt + _) (omega arith)) (omega arith), between p)
 
 same-length-3 : tie.Need-same-length-3 Inv-loop μ-loop
 same-length-3 c = c .before .loop .inv .3 .long
@@ -159,24 +139,24 @@ tail-spec =
     (tie.spec
     Inv-loop
     μ-loop
-    terminals-requires
-    wider-requires
-    length-requires
-    wider-requires-2
+    (λ c κs. search needs)
+    (λ c κs. search needs)
+    (λ c κs. search needs)
+    (λ c κs. search needs)
     loop-holds
-    sub-d
+    (λ c. search needs)
     add-symbol
-    symbol-requires
-    wider-requires-3
+    (λ c κs. search needs)
+    (λ c κs. search needs)
     same-length
     returns
-    wider-requires-4
+    (λ c κs. search needs)
     occur-requires
     add-k
-    has-requires
+    (λ c κs. search needs)
     same-length-2
     returns-2
-    loop-less
+    (λ c. search needs)
     loop-again
     same-length-3
     returns-3)

@@ -20,7 +20,7 @@ abbrev μ-loop : tie.MeasureT-loop
 words-requires : tie.Need-words-requires Inv-loop μ-loop
 words-requires c κs =
     let pre = c .before .before .before .before .before .pre in
-    (pre .2 .1 .ordered .formed, pre .0 .most, pre .1)
+    (pre .2 .ordered .formed, pre .0 .most, pre .1)
 
 loop-holds : tie.Need-loop-holds Inv-loop μ-loop
 loop-holds c = (omega arith, refl, λ a C. C)
@@ -44,7 +44,7 @@ mul-z c =
     let loop-test = c .before .before .before .loop-test in
     let enters = c .before .before .enters in
     let wide32 = c .before .wide32 in
-    let b = enters-below _ _ _ _ _ _ (pre .0) (pre .2 .1) (loop .i) (loop-test .taken) in omega (arith, pre .0 .most, enters .ensures, wide32 .ensures)
+    let b = enters-below _ _ _ _ _ (pre .0) (pre .2) (loop .i) (loop-test .taken) in omega (arith, pre .0 .most, enters .ensures, wide32 .ensures)
 
 slice-read-z : tie.Need-slice-read-z Inv-loop μ-loop
 slice-read-z c =
@@ -55,7 +55,7 @@ slice-read-z c =
     let loop-test = c .before .before .before .before .loop-test in
     let enters = c .before .before .before .enters in
     let wide32 = c .before .before .wide32 in
-    let b = enters-below _ _ _ _ _ _ (pre .0) (pre .2 .1) (loop .i) (loop-test .taken) in omega (arith, pre .0 .most, enters .ensures, wide32 .ensures, loop .inv .1, words .ensures (now (args .w)) .long, pre .1)
+    let b = enters-below _ _ _ _ _ (pre .0) (pre .2) (loop .i) (loop-test .taken) in omega (arith, pre .0 .most, enters .ensures, wide32 .ensures, loop .inv .1, words .ensures (now (args .w)) .long, pre .1)
 
 ending-requires : tie.Need-ending-requires Inv-loop μ-loop
 ending-requires c κs = search needs
@@ -64,7 +64,7 @@ mul-z-2 : tie.Need-mul-z-2 Inv-loop μ-loop
 mul-z-2 c =
     let pre = c .before .before .before .before .before .before .before .before .before .before .before .before .before .before .before .pre in
     let wide322 = c .before .before .wide322 in
-    omega (arith, pre .2 .1 .ordered .few, wide322 .ensures)
+    omega (arith, pre .2 .ordered .few, wide322 .ensures)
 
 slice-write-z : tie.Need-slice-write-z Inv-loop μ-loop
 slice-write-z c =
@@ -73,7 +73,7 @@ slice-write-z c =
     let words = c .before .before .before .before .before .before .before .before .before .words in
     let loop = c .before .before .before .before .before .before .loop in
     let wide322 = c .before .before .wide322 in
-    omega (arith, pre .2 .1 .ordered .few, wide322 .ensures, loop .inv .1, words .ensures (now (args .w)) .long, pre .1)
+    omega (arith, pre .2 .ordered .few, wide322 .ensures, loop .inv .1, words .ensures (now (args .w)) .long, pre .1)
 
 add-i : tie.Need-add-i Inv-loop μ-loop
 add-i c = search needs
@@ -91,7 +91,7 @@ loop-again c =
     let enters = c .before .before .before .before .enters in
     let wide32 = c .before .before .before .wide32 in
     let wide322 = c .before .before .wide322 in
-    (omega arith, simp length-set (loop .inv .1), λ a C. copied-direct _ _ _ _ _ _ _ _ _ _ (wide322 .ensures) (wide32 .ensures ∙ enters .ensures) (enters-below _ _ _ _ _ _ (pre .0) (pre .2 .1) (loop .i) (loop-test .taken)) (omega (arith, pre .2 .1 .ordered .few)) (omega (arith, loop .inv .1, words .ensures (now (args .w)) .long, pre .1)) (c .ending .ensures) (loop .inv .2 a C))
+    (omega arith, simp length-set (loop .inv .1), λ a C. copied-direct _ _ _ _ _ _ _ _ _ _ (wide322 .ensures) (wide32 .ensures ∙ enters .ensures) (enters-below _ _ _ _ _ (pre .0) (pre .2) (loop .i) (loop-test .taken)) (omega (arith, pre .2 .ordered .few)) (omega (arith, loop .inv .1, words .ensures (now (args .w)) .long, pre .1)) (c .ending .ensures) (loop .inv .2 a C))
 
 same-length : tie.Need-same-length Inv-loop μ-loop
 same-length c =
