@@ -14,7 +14,7 @@ use decimal::word;
 pub const TEXT: usize = 196658;
 
 // The number at place i, and 0 past the end.
-fn at(s: &[u16], i: usize) -> usize
+pub fn at(s: &[u16], i: usize) -> usize
     ensures { λ r. ⌜ (r ≡ getD (now (s .entry)) i 0) × (r < 65536) ⌝ }
 {
     if i < s.len() { s[i] as usize } else { 0 }
