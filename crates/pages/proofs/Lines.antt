@@ -20,7 +20,7 @@ blanks-length n = length-replicate {A = ℕ} n 32
 
 pub aligned-columns : (k n : ℕ) → length (aligned k n) ≡ (k - length (decimalOf n)) + length (decimalOf n)
 unfolding aligned
-aligned-columns k n = rw (length-append, blanks-length (k - length (decimalOf n))) refl
+aligned-columns k n = rw (length-append, blanks-length (k - length (decimalOf n))) (omega arith)
 
 aligned-length : (k n : ℕ) → length (decimalOf n) ≤ k → length (aligned k n) ≡ k
 aligned-length k n h = aligned-columns k n ∙ omega arith
