@@ -1,25 +1,27 @@
--- The program's answer to card A: for these bytes the text is the one of the paper, in full.
+-- The answer to card A: for these bytes the text is the one of the paper, in full; and a cell is found on its pages.
 use mathlib.Core.Path.{_≡_, refl, subst}
 use mathlib.Core.List.{List, [], _∷_, _++_}
 use Prim.Native.Nat.{ℕ}
+use native.Mathlib.Omega.{arith}
 use Rattle.sets.specs.Bit.{bit}
 use Rattle.sets.specs.Tests.{allBelow, between}
 use Rattle.grammar.specs.Card as cards
 use Rattle.grammar.specs.Card.{symbols, symbolOf, startOf, rightOf, isNonterminal, isSymbol, leftsOk, rightsOk, formFault}
-use Rattle.tables.specs.Layout.{build}
+use Rattle.tables.specs.Layout.{states, terminals, nonterminals, productions, width, cellOf, build}
 use Rattle.lalr.specs.ComputedNonterminals.{nullables, productive, reachable, uselessNonterminal, firsts}
 use Rattle.lalr.specs.ComputedStates as lalr
 use Rattle.lalr.specs.ComputedStates.{facts, closure, advance, goto}
 use Rattle.lalr.specs.Answer.{made}
 use Rattle.lalr.specs.ComputedAnswer.{cardAnswer, tableOf}
-use Rattle.card_input.specs.Reading.{cardSize}
 use Rattle.decimal.specs.Form.{Card}
 use Rattle.decimal.specs.Scanning.{classOf, entered, fedIn, fed, foundOf}
-use Rattle.decimal.proofs.Scanned.{scanned-card}
 use Rattle.listing.proofs.Example.{table-A, text-A, table-A-text}
+use Rattle.response.specs.declared.Form.the-variants.{Listing, Pages}
 use Rattle.response.specs.Response.{responseText, cardText}
-use Rattle.maketable.specs.Printed.{Prints, card}
-use Rattle.maketable.proofs.Texts.{zeros, zeros-length}
+use Rattle.pages.specs.Cells.{Found}
+use Rattle.response.proofs.CardPages.{card-cell-found}
+use Rattle.response.specs.Printed.{Prints, card}
+use Rattle.response.proofs.Printed.{found-card}
 
 card-A : List ℕ
 card-A = 3 ∷ 1 ∷ 2 ∷ 3 ∷ 3 ∷ 3 ∷ 2 ∷ 1 ∷ 3 ∷ 1 ∷ 2 ∷ []
@@ -45,7 +47,7 @@ input-A = input-0 ++ input-1 ++ input-2 ++ input-3
 
 input-A-card : Card input-A card-A
 unfolding card-A input-A input-0 input-1 input-2 input-3 classOf entered fedIn fed foundOf
-input-A-card = scanned-card (zeros cardSize) (zeros-length cardSize) input-A card-A .0 refl
+input-A-card = found-card input-A card-A refl
 
 card-A-made : cardAnswer card-A ≡ made
 unfolding card-A bit allBelow between cards.terminals cards.nonterminals cards.productions symbols cards.leftOf cards.lengthOf symbolOf startOf rightOf cards.sizesOk isNonterminal isSymbol leftsOk rightsOk formFault nullables productive reachable uselessNonterminal firsts lalr.states facts closure advance goto lalr.start
@@ -55,9 +57,14 @@ card-A-table : tableOf card-A ≡ table-A
 unfolding card-A bit allBelow between cards.terminals cards.nonterminals cards.productions symbols cards.leftOf cards.lengthOf symbolOf startOf rightOf nullables firsts lalr.states facts closure advance goto lalr.start tableOf build
 card-A-table = refl
 
-card-A-text : cardText card-A ≡ text-A
+card-A-text : cardText Listing card-A ≡ text-A
 unfolding cardText responseText
 card-A-text = rw (card-A-made, card-A-table) table-A-text
 
-prints-A : Prints input-A text-A
-prints-A = subst (Prints input-A) card-A-text (card input-A-card)
+prints-A : Prints Listing input-A text-A
+prints-A = subst (Prints Listing input-A) card-A-text (card input-A-card)
+
+-- and on its pages state 1 has 1,025 under symbol 0, where one who looks finds it
+pages-A : Found (cardText Pages card-A) 1 0 1025
+unfolding card-A states cellOf productions width terminals nonterminals cards.terminals cards.nonterminals
+pages-A = card-cell-found card-A card-A-made 1 0 (rw card-A-table (omega arith)) (omega arith) 1025 .1 (rw card-A-table refl)
