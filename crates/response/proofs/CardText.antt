@@ -83,8 +83,8 @@ module _ (c : List ℕ) (n : cardAnswer c ≢ made) where
   unfolding cardText
   refused-text form = refusal-text form (cardAnswer c) (tableOf c) (not-made c n)
 
-  pub refused-back : (form : Form) → numbersIn (cardText form c) ≡ numbersOf (cardAnswer c)
-  refused-back form = ap numbersIn (refused-text form) ∙ refusal-back (numbersOf (cardAnswer c))
+  pub card-refusal-back : (form : Form) → numbersIn (cardText form c) ≡ numbersOf (cardAnswer c)
+  card-refusal-back form = ap numbersIn (refused-text form) ∙ refusal-back (numbersOf (cardAnswer c))
 
   -- a refusal is the same in both forms, byte for byte
   pub refused-alike : (f g : Form) → cardText f c ≡ cardText g c
