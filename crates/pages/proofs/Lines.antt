@@ -12,7 +12,7 @@ use Rattle.sets.specs.Lists.{each}
 use Rattle.sets.proofs.ListLaws.{each-length}
 use Rattle.tables.specs.Layout.{width, cellOf}
 use Rattle.listing.proofs.Room.{Small}
-use Rattle.pages.specs.Pages.{blanks, pageLine, aligned, cellsOn, opening, rowLine}
+use Rattle.pages.specs.Pages.{blanks, pageLine, aligned, cellsOn, opening, cellsText, rowLine}
 use Rattle.pages.specs.Sheets.{NoFeed}
 
 blanks-length : (n : ℕ) → length (blanks n) ≡ n
@@ -37,10 +37,7 @@ pub cell-length : (t : List ℕ) → Small t → (q x : ℕ) → length (aligned
 unfolding cellOf
 cell-length t f q x = aligned-six (cellOf t q x) (f _)
 
--- the cells on line i of the row of state q, and the line before it is padded
-abbrev pub cellsText : List ℕ → ℕ → ℕ → List ℕ
-cellsText t q i = each (cellsOn (width t) i) (λ k. aligned 6 (cellOf t q (11 * i + k)))
-
+-- a line before it is padded
 abbrev pub rowPart : List ℕ → ℕ → ℕ → List ℕ
 rowPart t q i = opening q i ++ (cellsText t q i ++ blanks 2)
 

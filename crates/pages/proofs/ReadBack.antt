@@ -5,7 +5,7 @@ use mathlib.Core.List.{List, [], _∷_, _++_, append-assoc, append-nil}
 use mathlib.Core.Option.{none}
 use Prim.Native.Nat.{ℕ, zero, suc, _+_, _-_, _*_, _/_, _%_, _<_, _≤_}
 use native.Mathlib.Omega.{arith}
-use native.Mathlib.Nat.{add-zero, mod-lt, div-lt-iff-lt-mul, div-add-mod'}
+use native.Mathlib.Nat.{add-zero, mul-zero, mod-lt, div-lt-iff-lt-mul, div-add-mod'}
 use native.Mathlib.Decide.{decLt}
 use lib.ListN.{length, take, drop, replicate-append-replicate, drop-of-length-le}
 use lib.Seq.{take-at, take-all}
@@ -18,9 +18,9 @@ use Rattle.tables.specs.Layout.{states, width, cellOf}
 use Rattle.listing.specs.Numbers.{isDigit, runs, numbersIn}
 use Rattle.listing.proofs.ReadBack.{reads}
 use Rattle.listing.proofs.Room.{Small}
-use Rattle.pages.specs.Pages.{blanks, pageLine, aligned, rowLines, cellsOn, opening, rowLine, rowsText, fillLines, pagesText}
+use Rattle.pages.specs.Pages.{blanks, pageLine, aligned, rowLines, cellsOn, opening, cellsText, rowLine, rowsText, fillLines, pagesText}
 use Rattle.pages.specs.Cells.{lineOn, numbersAt, stateOn, cellOn, cellBack, Found}
-use Rattle.pages.proofs.Lines.{padded, line-padded, padded-length, opening-length, cell-length, cellsText, cells-length, rowPart, part-fits, row-line-length, blank-line-length}
+use Rattle.pages.proofs.Lines.{padded, line-padded, padded-length, opening-length, cell-length, cells-length, rowPart, part-fits, row-line-length, blank-line-length}
 use Rattle.pages.proofs.Pieces.{behind, each-piece}
 
 -- blanks have no number
@@ -167,12 +167,59 @@ module _ (t : List ℕ) (small : Small t) (few : states t ≤ 10000) where
           here (i / rowLines (width t)) (i % rowLines (width t)) (div-lt-iff-lt-mul l .1 h) (mod-lt i l) (div-add-mod' i (rowLines (width t)))
       go (no h) = absurd (omega (arith, ap length (sym (line-none i 0 4 (omega arith)) ∙ e)))
 
-  -- what is found by looking is the cell of the table
-  pub found : (q x v : ℕ) → q < states t → x < width t → Found (pagesText t) q x v ↔ v ≡ cellOf t q x
-  found q x v hq hx = (there, here)
+  -- what is found by looking: the cells of the table, each of them and nothing else
+  pub found : (q x v : ℕ) → Found (pagesText t) q x v ↔ ((q < states t) × (x < width t) × (v ≡ cellOf t q x))
+  found q x v = (there, here)
     where
-      there : Found (pagesText t) q x v → v ≡ cellOf t q x
-      there f = ap peek (sym (f .cell) ∙ ap (λ (i : ℕ). cellOn (pagesText t) (i + x / 11) (x % 11)) (state-only (f .line) q (f .opens) .0) ∙ cell-back q x hq hx)
+      -- where no line has a cell no line opens with a state
+      some : Found (pagesText t) q x v → 0 < width t
+      some f = go (decLt 0 (width t))
+        where
+          go : Dec (0 < width t) → 0 < width t
+          go (yes h) = h
+          go (no h) =
+              let z : rowLines (width t) ≡ 0 = omega arith in
+              let r : states t * rowLines (width t) ≤ f .line = rw (z, mul-zero) (omega arith) in
+              absurd (omega (arith, ap length (sym (line-none (f .line) 0 4 r) ∙ f .opens)))
 
-      here : v ≡ cellOf t q x → Found (pagesText t) q x v
-      here e = record { line = q * rowLines (width t); opens = state-back q hq (omega arith); cell = rw e (cell-back q x hq hx) }
+      -- who goes past the row's end comes to the next state, or to the blank lines
+      behind-row : Found (pagesText t) q x v → q < states t → rowLines (width t) ≤ x / 11 → ⊥
+      behind-row f hq hx = go (decLt (suc q) (states t))
+        where
+          place : f .line ≡ q * rowLines (width t)
+          place = state-only (f .line) q (f .opens) .0
+
+          go : Dec (suc q < states t) → ⊥
+          go (yes h) =
+              let p : 0 < rowLines (width t) = omega (arith, some f) in
+              let k : suc (rowLines (width t) - 1) ≡ rowLines (width t) = omega arith in
+              let e : f .line + suc (rowLines (width t) - 1) ≡ suc q * rowLines (width t) = rw (k, place) (omega arith) in
+              omega (arith, ap length (sym (f .further (rowLines (width t) - 1) (omega arith)) ∙ ap (stateOn (pagesText t)) e ∙ state-back (suc q) h (some f)))
+          go (no h) =
+              let e : states t ≡ suc q = omega arith in
+              let r : states t * rowLines (width t) ≤ f .line + x / 11 = rw (e, place) (omega arith) in
+              omega (arith, ap length (sym (line-none (f .line + x / 11) (4 + 6 * (x % 11)) 6 r) ∙ f .cell))
+
+      inside : Found (pagesText t) q x v → q < states t → x < width t
+      inside f hq = go (decLt x (width t)) (decLt (x / 11) (rowLines (width t)))
+        where
+          go : Dec (x < width t) → Dec (x / 11 < rowLines (width t)) → x < width t
+          go (yes h) d = h
+          go (no h) (yes k) =
+              let c : cellOn (pagesText t) (f .line + x / 11) (x % 11) ≡ [] = rw (state-only (f .line) q (f .opens) .0) (cell-none q (x / 11) (x % 11) hq k (omega arith)) in
+              absurd (omega (arith, ap length (sym c ∙ f .cell)))
+          go (no h) (no k) = absurd (behind-row f hq (omega arith))
+
+      there : Found (pagesText t) q x v → (q < states t) × (x < width t) × (v ≡ cellOf t q x)
+      there f =
+          let o = state-only (f .line) q (f .opens) in
+          let hx = inside f (o .1) in
+          (o .1, hx, ap peek (sym (f .cell) ∙ ap (λ (i : ℕ). cellOn (pagesText t) (i + x / 11) (x % 11)) (o .0) ∙ cell-back q x (o .1) hx))
+
+      here : (q < states t) × (x < width t) × (v ≡ cellOf t q x) → Found (pagesText t) q x v
+      here h = record {
+        line = q * rowLines (width t);
+        opens = state-back q (h .0) (omega (arith, h .1));
+        further = (λ i l. state-none q i (h .0) (omega (arith, h .1)));
+        cell = rw (h .2) (cell-back q x (h .0) (h .1));
+      }

@@ -1,5 +1,5 @@
 -- Reading the pages: what stands in the columns of a line.
-use Prim.Native.Nat.{ℕ, _+_, _*_, _/_, _%_}
+use Prim.Native.Nat.{ℕ, suc, _+_, _*_, _/_, _%_, _<_}
 use mathlib.Core.Path.{_≡_}
 use mathlib.Core.List.{List, [], _∷_}
 use lib.ListN.{take, drop}
@@ -26,8 +26,10 @@ cellOn pages i k = numbersAt (4 + 6 * k) 6 (lineOn pages i)
 abbrev pub cellBack : List ℕ → ℕ → ℕ → ℕ → List ℕ
 cellBack pages w q x = cellOn pages (q * rowLines w + x / 11) (x % 11)
 
--- the same by looking, with the pages, q and x alone: some line opens with q, and x / 11 lines on cell x % 11 is v
+-- the same by looking, with the pages, q and x alone: some line opens with q, the x / 11 lines behind it open with no state,
+-- and cell x % 11 of the last of them is v
 pub record Found (pages : List ℕ) (q x v : ℕ) : Type 0 where
   pub line : ℕ
   pub opens : stateOn pages line ≡ q ∷ []
+  pub further : (i : ℕ) → i < x / 11 → stateOn pages (line + suc i) ≡ []
   pub cell : cellOn pages (line + x / 11) (x % 11) ≡ v ∷ []

@@ -29,9 +29,13 @@ unfoldable pub opening : ℕ → ℕ → List ℕ
 opening q zero = aligned 4 q
 opening q (suc i) = blanks 4
 
--- line i of the row of state q: "the state in 4 columns, then up to 11 cells of 6 columns each, all right-aligned, then 2 blanks"
+-- the cells on line i of the row of state q: "6 columns each"
+abbrev pub cellsText : List ℕ → ℕ → ℕ → List ℕ
+cellsText t q i = each (cellsOn (width t) i) (λ k. aligned 6 (cellOf t q (11 * i + k)))
+
+-- the line: "the state in 4 columns, then up to 11 cells .., all right-aligned, then 2 blanks"
 unfoldable pub rowLine : List ℕ → ℕ → ℕ → List ℕ
-rowLine t q i = pageLine (opening q i ++ (each (cellsOn (width t) i) (λ k. aligned 6 (cellOf t q (11 * i + k))) ++ blanks 2))
+rowLine t q i = pageLine (opening q i ++ (cellsText t q i ++ blanks 2))
 
 -- the rows of all states
 unfoldable pub rowsText : List ℕ → List ℕ

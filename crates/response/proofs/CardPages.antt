@@ -5,12 +5,9 @@ use mathlib.Core.List.{List, [], _∷_}
 use Prim.Native.Nat.{ℕ, _+_, _*_, _/_, _<_, _≤_}
 use native.Mathlib.Omega.{arith}
 use Rattle.grammar.specs.Card as cards
-use Rattle.tables.specs.Layout.{states, width, cellOf}
+use Rattle.tables.specs.Layout.{states, cellOf}
 use Rattle.lalr.specs.Answer.{made}
 use Rattle.lalr.specs.ComputedAnswer.{cardAnswer, tableOf}
-use Rattle.lalr.proofs.Main.{card-table, table-words}
-use Rattle.lalr.proofs.TableLaws.{made-of}
-use Rattle.listing.proofs.Room.{Small}
 use Rattle.pages.specs.Pages.{pagesText, rowLines}
 use Rattle.pages.specs.Cells.{cellBack, Found}
 use Rattle.pages.specs.Sheets.{Lines}
@@ -18,6 +15,7 @@ use Rattle.pages.proofs.Form.{in-pages}
 use Rattle.pages.proofs.ReadBack.{cell-back, found}
 use Rattle.response.specs.declared.Form.the-variants.{Pages}
 use Rattle.response.specs.Response.{responseText, cardText}
+use Rattle.response.proofs.CardText.{small-table, few-states, wide-rows}
 
 module _ (c : List ℕ) (m : cardAnswer c ≡ made) where
   -- the text is the pages of the card's table
@@ -25,29 +23,18 @@ module _ (c : List ℕ) (m : cardAnswer c ≡ made) where
   unfolding cardText responseText
   card-pages = rw m refl
 
-  small : Small (tableOf c)
-  small i = let b = table-words c m i in omega arith
-
   few : states (tableOf c) ≤ 10000
-  few = let z = card-table c m .sizes in omega (arith, z .0, made-of c m .few)
-
-  -- rows are as wide as the card says: T + N
-  wide : width (tableOf c) ≡ cards.terminals c + cards.nonterminals c
-  unfolding width
-  wide = let z = card-table c m .sizes in omega (arith, z .1, z .2)
+  few = omega (arith, few-states c m)
 
   -- whole pages: 60 lines of 72 columns, each with a line feed
   pub card-in-pages : Lines (60 * ((states (tableOf c) * rowLines (cards.terminals c + cards.nonterminals c) + 59) / 60)) (cardText Pages c)
-  card-in-pages = rw (card-pages, ← wide) (in-pages (tableOf c) small few)
+  card-in-pages = rw (card-pages, ← wide-rows c m) (in-pages (tableOf c) (small-table c m) few)
 
-  module _ (q x : ℕ) (state : q < states (tableOf c)) (symbol : x < cards.terminals c + cards.nonterminals c) where
-    column : x < width (tableOf c)
-    column = rw wide symbol
+  -- by its place, with the pages and T + N alone
+  pub card-cell-back : (q x : ℕ) → q < states (tableOf c) → x < cards.terminals c + cards.nonterminals c
+      → cellBack (cardText Pages c) (cards.terminals c + cards.nonterminals c) q x ≡ cellOf (tableOf c) q x ∷ []
+  card-cell-back q x h k = rw (card-pages, ← wide-rows c m) (cell-back (tableOf c) (small-table c m) few q x h (rw (wide-rows c m) k))
 
-    -- by its place, with the pages and T + N alone
-    pub card-cell-back : cellBack (cardText Pages c) (cards.terminals c + cards.nonterminals c) q x ≡ cellOf (tableOf c) q x ∷ []
-    card-cell-back = rw (card-pages, ← wide) (cell-back (tableOf c) small few q x state column)
-
-    -- and by looking, with the pages alone
-    pub card-cell-found : (v : ℕ) → Found (cardText Pages c) q x v ↔ v ≡ cellOf (tableOf c) q x
-    card-cell-found v = rw card-pages (found (tableOf c) small few q x v state column)
+  -- by looking, with the pages alone: the cells of the table are found, and nothing else
+  pub card-cell-found : (q x v : ℕ) → Found (cardText Pages c) q x v ↔ ((q < states (tableOf c)) × (x < cards.terminals c + cards.nonterminals c) × (v ≡ cellOf (tableOf c) q x))
+  card-cell-found q x v = rw (card-pages, ← wide-rows c m) (found (tableOf c) (small-table c m) few q x v)

@@ -2,10 +2,11 @@
 use mathlib.Core.Path.{_≡_, refl, sym, ap, _∙_}
 use mathlib.Core.List.{List}
 use mathlib.Core.Logic.{_≢_}
-use Prim.Native.Nat.{ℕ, _≤_}
+use Prim.Native.Nat.{ℕ, _+_, _≤_}
 use native.Mathlib.Omega.{arith}
 use borrow.Author.Tests.{le-ltb, ne-eqb}
 use lib.ListN.{length, getD}
+use Rattle.grammar.specs.Card as cards
 use Rattle.tables.specs.Layout.{states, productions, width}
 use Rattle.areas.specs.Areas.{tableSize, wordsSize, halvesSize}
 use Rattle.lalr.specs.Answer.{Answer, made, numbersOf}
@@ -29,17 +30,26 @@ refusal-text : (form : Form) (a : Answer) (t : List ℕ) → Refusal a → respo
 unfolding responseText
 refusal-text form a t r = rw (ne-eqb (getD (numbersOf a) 0 0) 0 (λ e. omega (arith, r .some))) refl
 
+-- a table of the maker is within the limits, and its rows are as wide as the card says: T + N
 module _ (c : List ℕ) (m : cardAnswer c ≡ made) where
-  table-most : (form : Form) → length (tableIn form (tableOf c)) ≤ roomOf form
+  pub small-table : Small (tableOf c)
+  small-table i = let b = table-words c m i in omega arith
+
+  pub few-states : states (tableOf c) ≤ 256
+  few-states = omega (arith, card-table c m .sizes .0, made-of c m .few)
+
+  pub wide-rows : width (tableOf c) ≡ cards.terminals c + cards.nonterminals c
   unfolding width
+  wide-rows = let z = card-table c m .sizes in omega (arith, z .1, z .2)
+
+  table-most : (form : Form) → length (tableIn form (tableOf c)) ≤ roomOf form
   table-most form =
-      let z = card-table c m .sizes in
       let l = the-form c (made-of c m) .limits in
-      go form (λ i. (let b = table-words c m i in omega arith)) (omega (arith, z .0, made-of c m .few)) (omega (arith, z .1, z .2, l .terminals-to, l .nonterminals-to)) (omega (arith, z .3, l .productions-to))
+      go form (omega (arith, wide-rows, l .terminals-to, l .nonterminals-to)) (omega (arith, card-table c m .sizes .3, l .productions-to))
     where
-      go : (form : Form) → Small (tableOf c) → states (tableOf c) ≤ 256 → width (tableOf c) ≤ 124 → productions (tableOf c) ≤ 128 → length (tableIn form (tableOf c)) ≤ roomOf form
-      go Listing s q w p = table-room (tableOf c) s q w p
-      go Pages s q w p = pages-room (tableOf c) s q w
+      go : (form : Form) → width (tableOf c) ≤ 124 → productions (tableOf c) ≤ 128 → length (tableIn form (tableOf c)) ≤ roomOf form
+      go Listing w p = table-room (tableOf c) small-table few-states w p
+      go Pages w p = pages-room (tableOf c) small-table few-states w
 
 -- a line has room
 pub line-fits : (form : Form) → 38 ≤ roomOf form

@@ -5,7 +5,7 @@ use mathlib.Core.List.{List, []}
 use mathlib.Core.Logic.{_≢_}
 use Prim.Native.Nat.{ℕ, _≤_}
 use native.Mathlib.Omega.{arith}
-use lib.ListN.{length, take, replicate, length-replicate}
+use lib.ListN.{length, take, length-replicate}
 use Rattle.card_input.specs.Reading.{cardSize, Came}
 use Rattle.card_input.specs.declared.Input.{Input}
 use Rattle.card_input.specs.declared.Input.the-variants as input
@@ -21,6 +21,7 @@ use Rattle.response.specs.declared.Form.{Form}
 use Rattle.response.specs.Response.{roomOf, cardText}
 use Rattle.response.specs.Printed.{Prints, card, other, Answers}
 use Rattle.response.proofs.CardText.{line-fits, refused-alike}
+use Rattle.response.proofs.Whole.{zeros}
 
 -- a card's numbers, an input that is none, or nothing
 module _ (form : Form) (i : Input) (bs area : List ℕ) (came : Came bs area i) where
@@ -35,19 +36,16 @@ module _ (form : Form) (i : Input) (bs area : List ℕ) (came : Came bs area i) 
 pub nothing-answers : (form : Form) (i : Input) (bs : List ℕ) → i ≡ input.Failed → Answers form bs i []
 nothing-answers form i bs e = rw e refl
 
-abbrev zeros : List ℕ
-zeros = replicate cardSize 0
-
-zeros-length : length zeros ≡ cardSize
+zeros-length : length (zeros cardSize) ≡ cardSize
 zeros-length = length-replicate {A = ℕ} cardSize 0
 
 -- a card is what the scan finds
-pub found-card : (bs c : List ℕ) → scanned zeros bs ≡ some c → Card bs c
-found-card bs c = scanned-card zeros zeros-length bs c .0
+pub found-card : (bs c : List ℕ) → scanned (zeros cardSize) bs ≡ some c → Card bs c
+found-card bs c = scanned-card (zeros cardSize) zeros-length bs c .0
 
 module _ (bs : List ℕ) where
   one-card : {c d : List ℕ} → Card bs c → Card bs d → c ≡ d
-  one-card {c} {d} h k = let e : some c ≡ some d = sym (scanned-card zeros zeros-length bs c .1 h) ∙ scanned-card zeros zeros-length bs d .1 k in cc
+  one-card {c} {d} h k = let e : some c ≡ some d = sym (scanned-card (zeros cardSize) zeros-length bs c .1 h) ∙ scanned-card (zeros cardSize) zeros-length bs d .1 k in cc
 
   pub one-text : {form : Form} {x y : List ℕ} → Prints form bs x → Prints form bs y → x ≡ y
   one-text {form} (card h) (card k) = ap (cardText form) (one-card h k)
@@ -56,10 +54,10 @@ module _ (bs : List ℕ) where
   one-text (other f) (other g) = refl
 
   pub some-text : (form : Form) → (x : List ℕ) × Prints form bs x
-  some-text form = go (scanned zeros bs) refl
+  some-text form = go (scanned (zeros cardSize) bs) refl
     where
-      go : (o : Option (List ℕ)) → scanned zeros bs ≡ o → (x : List ℕ) × Prints form bs x
-      go none e = (notACard, other (scanned-none zeros zeros-length bs .0 e))
+      go : (o : Option (List ℕ)) → scanned (zeros cardSize) bs ≡ o → (x : List ℕ) × Prints form bs x
+      go none e = (notACard, other (scanned-none (zeros cardSize) zeros-length bs .0 e))
       go (some c) e = (cardText form c, card (found-card bs c e))
 
   -- where the bytes are no card, or a card that is refused, every form prints the same

@@ -64,7 +64,7 @@ card-A-text = rw (card-A-made, card-A-table) table-A-text
 prints-A : Prints Listing input-A text-A
 prints-A = subst (Prints Listing input-A) card-A-text (card input-A-card)
 
--- and on its pages state 1 has 1,025 under symbol 0, where one who looks finds it
+-- and on its pages one who looks finds 1,025 for state 1 under symbol 0
 pages-A : Found (cardText Pages card-A) 1 0 1025
 unfolding card-A states cellOf productions width terminals nonterminals cards.terminals cards.nonterminals
-pages-A = card-cell-found card-A card-A-made 1 0 (rw card-A-table (omega arith)) (omega arith) 1025 .1 (rw card-A-table refl)
+pages-A = card-cell-found card-A card-A-made 1 0 1025 .1 (rw card-A-table (omega arith), omega arith, rw card-A-table refl)
