@@ -111,10 +111,17 @@ comparisons_fail() {
         echo "13 changed files found"
 }
 
+# with_stack KIB COMMAND..: with so much stack; the reference, which needs more, has what there is.
+with_stack() (
+    [ -n "${STAND_IN:-}" ] || ulimit -s "$1" || exit 1
+    shift
+    exec "$@"
+)
+
 # printing NAME VARIABLE PROGRAM: what a program over cards prints, and what it says of failing calls.
 printing() {
     if [ -n "$3" ]; then
-        step "$1" python3 "$tests/cases/$1.py" "$3" "$tests"/bison/data/*.txt
+        step "$1" with_stack 1024 python3 "$tests/cases/$1.py" "$3" "$tests"/bison/data/*.txt
         [ -n "${STAND_IN:-}" ] || step "$1-failures" sh "$tests/cases/failures.sh" "$3"
     else
         echo "skipped $1: $2 names no program"
