@@ -3,16 +3,17 @@ use mathlib.Core.Path.{_≡_, refl, sym, ap, _∙_}
 use mathlib.Core.List.{List, [], _∷_, _++_, append-assoc}
 use Prim.Native.Nat.{ℕ, zero, suc, _+_, _-_, _*_, _/_, _<_, _≤_}
 use native.Mathlib.Numerals.{add-one}
-use native.Mathlib.Nat.{zero-mul, suc-mul, mul-le-mul}
+use native.Mathlib.Nat.{mul-le-mul}
 use native.Mathlib.Omega.{arith}
 use lib.ListN.{length, getD, length-append, replicate-append-replicate}
 use Rattle.sets.specs.Lists.{each}
 use Rattle.sets.proofs.ListLaws.{each-same}
-use Rattle.tables.specs.Layout.{states, productions, width, cellsAt, rowAt, cellOf}
+use Rattle.tables.specs.Layout.{states, productions, width, rowAt, cellOf}
 use Rattle.decimal.specs.Digits.{decimalOf}
 use Rattle.decimal.specs.Page.{Page, pageOf, page, wroteByte, wrote}
 use Rattle.decimal.proofs.Decimal.{decimal-one, decimal-more, decimal-length}
 use Rattle.decimal.proofs.Written.{wrote-joined, wrote-last, wrote-front}
+use Rattle.listing.proofs.Lines.{Placed, placed-next}
 use Rattle.pages.specs.Pages.{blanks, pageLine, aligned, rowLines, cellsOn, opening, rowLine, rowsText, fillLines, pagesText}
 use Rattle.pages.specs.Parts.{cellsFrom, lineFrom, rowFrom}
 use Rattle.pages.proofs.Lines.{aligned-columns, aligned-six}
@@ -131,55 +132,34 @@ row-at : (t : List ℕ) (q : ℕ) → rowText t q ≡ rowFrom t q (rowAt (produc
 unfolding rowLine rowFrom lineFrom cellsFrom cellOf
 row-at t q = each-same (rowLines (width t)) _ _ (λ i h. ap (λ (cs : List ℕ). pageLine (opening q i ++ (cs ++ blanks 2))) (each-same (cellsOn (width t) i) _ _ (λ k l. ap (λ (n : ℕ). aligned 6 (getD t n 0)) (omega arith))))
 
--- what holds in the loop over the rows: the rows written, where the next one stands, and that no sum wraps
+-- what holds in the loop over the rows: the rows written, and where the next one stands
 pub record Going (t : List ℕ) (count w : ℕ) (start : Page) (size : ℕ) (out : List ℕ) (from n q : ℕ) : Type 0 where
+  pub placed : Placed t count w from q
   pub wrote : Wrote start (rowText t) size out n q
-  pub place : from ≡ rowAt (productions t) (states t) (width t) q
-  pub wide : w ≡ width t
-  pub all : count ≡ states t
-  pub few : count < 65536
-  pub narrow : w < 131072
-  pub room : from ≤ 196612 + q * 131072
   pub below : q ≤ count
 
-pub rows-start : (t : List ℕ) (count w p from : ℕ) (out : List ℕ) (n : ℕ) → (count ≡ getD t 0 0) × (count < 65536) → (w ≡ width t) × (w < 131072)
-    → (p ≡ getD t 3 0) × (p < 65536) → from ≡ cellsAt p count → Going t count w (pageOf out n) (length out) out from n 0
-unfolding states productions
-rows-start t count w p from out n e f g h = record {
-  wrote = wrote-none out n (rowText t);
-  place = rw (zero-mul) (omega arith);
-  wide = f .0;
-  all = e .0;
-  few = e .1;
-  narrow = f .1;
-  room = omega arith;
-  below = omega arith;
-}
+pub rows-start : {t : List ℕ} {count w from : ℕ} → Placed t count w from 0 → (out : List ℕ) (n : ℕ) → Going t count w (pageOf out n) (length out) out from n 0
+rows-start {t} g out n = record { placed = g; wrote = wrote-none out n (rowText t); below = omega arith }
 
 pub rows-next : {t : List ℕ} {count w : ℕ} {start : Page} {size : ℕ} {out : List ℕ} {from n q : ℕ} → Going t count w start size out from n q → q < count → (next : List ℕ) (m : ℕ)
     → pageOf next m ≡ wrote (pageOf out n) (rowFrom t q from w) → length next ≡ length out → Going t count w start size next (from + w) m (q + 1)
-rows-next {t} {count} {w} {from = from} {q = q} g h next m e l = record {
-  wrote = wrote-part (g .wrote) next m (rw (row-at t q, ← g .place, ← g .wide) e) l;
-  place = rw (g .place, g .wide, add-one, suc-mul q (width t)) (omega arith);
-  wide = g .wide;
-  all = g .all;
-  few = g .few;
-  narrow = g .narrow;
-  room = omega (arith, g .room, g .narrow);
+rows-next {t} {q = q} g h next m e l = record {
+  placed = placed-next (g .placed);
+  wrote = wrote-part (g .wrote) next m (rw (row-at t q, ← g .placed .place, ← g .placed .wide) e) l;
   below = omega arith;
 }
 
 pub rows-all : {t : List ℕ} {count w : ℕ} {start : Page} {size : ℕ} {out : List ℕ} {from n q : ℕ} → Going t count w start size out from n q → count ≤ q → pageOf out n ≡ wrote start (rowsText t)
 unfolding rowsText
-rows-all {t} {count} {q = q} g h = let e : states t ≡ q = omega (arith, g .below, g .all) in rw e (g .wrote .parts)
+rows-all {t} {count} {q = q} g h = let e : states t ≡ q = omega (arith, g .below, g .placed .all) in rw e (g .wrote .parts)
 
 -- the lines of a table, and those that fill its last page
-pub lines-few : (count w : ℕ) → count < 65536 → w < 131072 → count * ((w + 10) / 11) ≤ 65536 * 131072
-lines-few count w h k = let a : count ≤ 65536 = omega arith in let b : (w + 10) / 11 ≤ 131072 = omega arith in mul-le-mul a b
+pub lines-few : (count w lines : ℕ) → count < 65536 → w < 131072 → lines ≡ rowLines w → count * lines ≤ 65536 * 131072
+lines-few count w lines h k e = let a : count ≤ 65536 = omega arith in let b : lines ≤ 131072 = omega arith in mul-le-mul a b
 
-pub fill-is : (t : List ℕ) (count w : ℕ) → count ≡ getD t 0 0 → w ≡ width t → 60 * ((count * ((w + 10) / 11) + 59) / 60) - count * ((w + 10) / 11) ≡ fillLines (states t * rowLines (width t))
+pub fill-is : (t : List ℕ) (count w lines : ℕ) → count ≡ getD t 0 0 → w ≡ width t → lines ≡ rowLines w → fillLines (count * lines) ≡ fillLines (states t * rowLines (width t))
 unfolding states
-fill-is t count w e f = rw (e, f) refl
+fill-is t count w lines e f g = rw (g, e, f) refl
 
 -- a table's pages: the rows, and blank lines behind them
 pub table-done : (t out : List ℕ) (k : ℕ) (a b : Page) → a ≡ wrote (pageOf out 0) (rowsText t) → k ≡ fillLines (states t * rowLines (width t)) → b ≡ wrote a (each k (λ i. pageLine [])) → b ≡ page out (pagesText t)

@@ -12,6 +12,7 @@ ghost use Rattle.pages.specs.Parts.{cellsFrom, lineFrom, rowFrom};
 use decimal::number;
 use decimal::put;
 use listing::at;
+use listing::row_width;
 
 // So many bytes hold the pages of every table within the limits.
 pub const TEXT: usize = 227760;
@@ -148,6 +149,14 @@ fn line(
     close_line(out, n, columns)
 }
 
+// How many lines the row of w cells takes.
+fn row_lines(w: usize) -> usize
+    requires { ⌜ w + 10 < 2 ^ 64 ⌝ }
+    ensures { λ r. ⌜ r ≡ rowLines w ⌝ }
+{
+    (w + 10) / 11
+}
+
 // How many of w cells stand on line i of their row.
 fn count_on(w: usize, i: usize) -> usize
     requires { ⌜ 11 * i ≤ w ⌝ }
@@ -162,7 +171,7 @@ fn row(out: &mut [u8], used: usize, t: &[u16], q: usize, from: usize, w: usize) 
     requires { ⌜ from + w < 2 ^ 62 ⌝ }
     ensures { λ r. ⌜ pageOf (now (out .exit)) r ≡ wrote (pageOf (now (out .entry)) used) (rowFrom (now (t .entry)) q from w) ⌝ }
 {
-    let lines = (w + 10) / 11;
+    let lines = row_lines(w);
     let mut n = used;
     let mut i = 0;
     while i < lines {
@@ -170,13 +179,6 @@ fn row(out: &mut [u8], used: usize, t: &[u16], q: usize, from: usize, w: usize) 
         i += 1;
     }
     n
-}
-
-// The cells of a row.
-fn row_width(t: &[u16]) -> usize
-    ensures { λ r. ⌜ (r ≡ width (now (t .entry))) × (r < 131072) ⌝ }
-{
-    at(t, tables::TERMINALS) + at(t, tables::NONTERMINALS)
 }
 
 // The rows of all states.
@@ -213,7 +215,7 @@ fn fill(out: &mut [u8], used: usize, count: usize) -> usize
 fn blank_lines(t: &[u16]) -> usize
     ensures { λ r. ⌜ r ≡ fillLines (states (now (t .entry)) * rowLines (width (now (t .entry)))) ⌝ }
 {
-    let lines = at(t, tables::STATES) * ((row_width(t) + 10) / 11);
+    let lines = at(t, tables::STATES) * row_lines(row_width(t));
     60 * ((lines + 59) / 60) - lines
 }
 

@@ -6,13 +6,13 @@ use Rattle.pages.proofs.blank_lines.Statement.{statement}
 use Rattle.pages.proofs.blank_lines.Tie as tie
 
 mul-lines : tie.Need-mul-lines
-mul-lines c = let l = lines-few _ _ (c .before .at .ensures .1) (c .row-width .ensures .1) in omega (arith, l)
+mul-lines c = let l = lines-few _ _ _ (c .before .before .at .ensures .1) (c .before .row-width .ensures .1) (c .row-lines .ensures) in omega (arith, l)
 
 add-result : tie.Need-add-result
-add-result c = let l = lines-few _ _ (c .before .at .ensures .1) (c .row-width .ensures .1) in omega (arith, l)
+add-result c = let l = lines-few _ _ _ (c .before .before .at .ensures .1) (c .before .row-width .ensures .1) (c .row-lines .ensures) in omega (arith, l)
 
 mul-result : tie.Need-mul-result
-mul-result c = let l = lines-few _ _ (c .before .at .ensures .1) (c .row-width .ensures .1) in omega (arith, l)
+mul-result c = let l = lines-few _ _ _ (c .before .before .at .ensures .1) (c .before .row-width .ensures .1) (c .row-lines .ensures) in omega (arith, l)
 
 pub blank-lines-spec : {M : Type 1} → statement M
 blank-lines-spec =
@@ -20,9 +20,9 @@ blank-lines-spec =
     (tie.spec
     (λ c κs. search needs)
     (λ c κs. search needs)
-    (λ c. search needs)
+    (λ c κs. omega (arith, c .row-width .ensures .1))
     mul-lines
     add-result
     mul-result
     (λ c. search needs)
-    (λ c. fill-is _ _ _ (c .before .at .ensures .0) (c .row-width .ensures .0)))
+    (λ c. fill-is _ _ _ _ (c .before .before .at .ensures .0) (c .before .row-width .ensures .0) (c .row-lines .ensures)))

@@ -26,7 +26,7 @@ loop-again c =
 
 returns : tie.Need-returns Inv-loop μ-loop
 unfolding rowFrom
-returns c = wrote-all (c .before .loop .inv .0) (c .before .loop .inv .1) (c .loop-test .left)
+returns c = let b1 = c .before in rw (← b1 .before .row-lines .ensures) (wrote-all (b1 .loop .inv .0) (b1 .loop .inv .1) (c .loop-test .left))
 
 pub row-spec : {M : Type 1} → statement M
 row-spec =
@@ -34,7 +34,7 @@ row-spec =
     (tie.spec
     Inv-loop
     μ-loop
-    (λ c. omega arith)
+    (λ c κs. omega arith)
     (λ c. (wrote-none _ _ _, omega arith))
     (λ c. omega arith)
     (λ c. omega arith)

@@ -4,6 +4,7 @@ use Prim.Native.Nat.{_-_}
 use native.Mathlib.Omega.{arith}
 use lib.ListN.{length}
 use Rattle.decimal.specs.Page.{pageOf}
+use Rattle.listing.proofs.Lines.{placed-start}
 use Rattle.pages.proofs.Writing.{Going, rows-start, rows-next, rows-all}
 use Rattle.pages.proofs.rows.Statement.{statement}
 use Rattle.pages.proofs.rows.Tie as tie
@@ -17,7 +18,7 @@ abbrev μ-loop : tie.MeasureT-loop
 loop-holds : tie.Need-loop-holds Inv-loop μ-loop
 loop-holds c =
     let b1 = c .before in
-    rows-start _ _ _ _ _ _ _ (b1 .before .before .at .ensures) (b1 .before .row-width .ensures) (b1 .at2 .ensures) (c .cells-at .ensures)
+    rows-start (placed-start _ _ _ _ _ (b1 .before .before .at .ensures) (b1 .before .row-width .ensures) (b1 .at2 .ensures) (c .cells-at .ensures)) _ _
 
 loop-again : tie.Need-loop-again Inv-loop μ-loop
 loop-again c =

@@ -2,8 +2,8 @@
 use borrow.Author.Needs.{needs}
 use native.Mathlib.Omega.{arith}
 use Rattle.tables.specs.Layout.{terminals, nonterminals, width}
-use Rattle.pages.proofs.row_width.Statement.{statement}
-use Rattle.pages.proofs.row_width.Tie as tie
+use Rattle.listing.proofs.row_width.Statement.{statement}
+use Rattle.listing.proofs.row_width.Tie as tie
 
 returns : tie.Need-returns
 unfolding terminals nonterminals width
