@@ -4,7 +4,6 @@ use mathlib.Core.List.{List}
 use Prim.Native.Nat.{ℕ, _≤_}
 use native.Mathlib.Omega.{arith}
 use lib.ListN.{length, take, replicate, length-replicate}
-use lib.Dec.{T, leb, lit≤}
 use Rattle.areas.specs.Areas.{tableSize, wordsSize, halvesSize}
 use Rattle.decimal.proofs.Written.{page-text}
 use Rattle.lalr.specs.Answer.{numbersOf}
@@ -22,12 +21,8 @@ reply-whole form t z w c before after n r h i j k =
 abbrev pub zeros : ℕ → List ℕ
 zeros n = replicate n 0
 
-zeros-long : (n : ℕ) → n ≤ length (zeros n)
+pub zeros-long : (n : ℕ) → n ≤ length (zeros n)
 zeros-long n = omega (arith, length-replicate {A = ℕ} n 0)
-
--- a buffer of so many bytes has room, where that is told by two numbers
-pub zeros-room : (n : ℕ) {k : ℕ} → T (leb k n) → k ≤ length (zeros n)
-zeros-room n {k} t = let h : k ≤ n = lit≤ t in omega (arith, zeros-long n)
 
 -- areas of zeros
 pub reply-text : (form : Form) (c before after : List ℕ) (n : ℕ) {t z w : List ℕ} → RepliesAs form (generated (zeros tableSize) (zeros wordsSize) (zeros halvesSize) c) before after n t z w
