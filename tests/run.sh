@@ -26,9 +26,7 @@ sh tests/explain/run.sh
 # the examples' tables and pages, and what the documents say
 for example in a json nested pair; do
     ./maketable <examples/$example.card | cmp - examples/$example.table
-done
-echo "1 1 1 0 1 0" | ./maketable | cmp - examples/empty.table
-for example in a json; do
     ./pagetable <examples/$example.card | cmp - examples/$example.pages
 done
+echo "1 1 1 0 1 0" | ./maketable | cmp - examples/empty.table
 python3 tests/docs/check.py

@@ -23,6 +23,9 @@ expect "a read that fails" "$name: read: Is a directory"
 echo "1 1 1" | "$program" 2>"$room/err" >/dev/full
 expect "a write that fails" "$name: write: No space left on device"
 
+echo "3 1 2 3 3 3 2 1 3 1 2" | "$program" 2>"$room/err" >/dev/full
+expect "a table that cannot be written" "$name: write: No space left on device"
+
 "$program" <&- >"$room/out" 2>"$room/err"
 expect "standard input closed" "$name: read: Bad file descriptor"
 
@@ -30,5 +33,5 @@ expect "standard input closed" "$name: read: Bad file descriptor"
 echo "x" | "$program" 2>"$room/err" >&-
 expect "standard output closed" "$name: write: Bad file descriptor"
 
-[ $bad -eq 0 ] && echo "4 failing calls, each told"
+[ $bad -eq 0 ] && echo "5 failing calls, each told"
 exit $bad

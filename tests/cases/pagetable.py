@@ -222,7 +222,7 @@ def header(rows):
     return paged([f"table {len(rows)} {len(rows[0])}"] + list(lines_of(rows)))
 
 
-def last_filled(rows):
+def blank_first(rows):
     """The blank lines in front of the rows."""
     lines = list(lines_of(rows))
     return paged([""] * (-len(lines) % 60) + lines)
@@ -291,7 +291,7 @@ WRONG_PAGES = [
     (False, "pages of 120 lines", lambda rows: paged(lines_of(rows), length=120)),
     (False, "a page behind a full one", one_more),
     (False, "a page behind the last", lambda rows: paged(lines_of(rows)) + paged([""])),
-    (True, "the blank lines first", last_filled),
+    (True, "the blank lines first", blank_first),
     (True, "a line with sizes first", header),
     (True, "the first page only", lambda rows: paged(lines_of(rows))[:60 * 73]),
     (True, "the pages twice", lambda rows: 2 * paged(lines_of(rows))),

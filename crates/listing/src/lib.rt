@@ -20,7 +20,7 @@ pub fn at(s: &[u16], i: usize) -> usize
     if i < s.len() { s[i] as usize } else { 0 }
 }
 
-// The cells of a row.
+// How many cells a row has.
 pub fn row_width(t: &[u16]) -> usize
     ensures { λ r. ⌜ (r ≡ width (now (t .entry))) × (r < 131072) ⌝ }
 {

@@ -18,7 +18,7 @@ use Rattle.tables.specs.Layout.{states, width, cellOf}
 use Rattle.listing.specs.Numbers.{isDigit, runs, numbersIn}
 use Rattle.listing.proofs.ReadBack.{reads}
 use Rattle.listing.proofs.Room.{Small}
-use Rattle.pages.specs.Pages.{blanks, pageLine, aligned, rowLines, cellsOn, opening, cellsText, rowLine, rowsText, fillLines, pagesText}
+use Rattle.pages.specs.Pages.{blanks, pageLine, aligned, rowLines, cellsOn, opening, cellsText, rowLine, rowText, rowsText, fillLines, pagesText}
 use Rattle.pages.specs.Cells.{lineOn, numbersAt, stateOn, cellOn, cellBack, Found}
 use Rattle.pages.proofs.Lines.{padded, line-padded, padded-length, opening-length, cell-length, cells-length, rowPart, part-fits, row-line-length, blank-line-length}
 use Rattle.pages.proofs.Pieces.{behind, each-piece}
@@ -54,10 +54,10 @@ module _ (t : List ℕ) (small : Small t) (few : states t ≤ 10000) where
   line-long : (q : ℕ) → q < states t → (i : ℕ) → i < rowLines (width t) → length (rowLine t q i) ≡ 73
   line-long q h i l = row-line-length t small q i (omega arith)
 
-  row-long : (q : ℕ) → q < states t → length (each (rowLines (width t)) (rowLine t q)) ≡ rowLines (width t) * 73
+  row-long : (q : ℕ) → q < states t → length (rowText t q) ≡ rowLines (width t) * 73
   row-long q h = each-length (rowLines (width t)) 73 (rowLine t q) (line-long q h)
 
-  line-of-row : (q i : ℕ) → q < states t → i < rowLines (width t) → take 72 (drop (i * 73) (each (rowLines (width t)) (rowLine t q))) ≡ padded (rowPart t q i)
+  line-of-row : (q i : ℕ) → q < states t → i < rowLines (width t) → take 72 (drop (i * 73) (rowText t q)) ≡ padded (rowPart t q i)
   unfolding rowLine
   line-of-row q i hq hi =
       simp (append-nil, add-zero) at (each-piece (rowLines (width t)) 73 (rowLine t q) [] (line-long q hq) i 0 72 hi (omega arith))
@@ -69,7 +69,7 @@ module _ (t : List ℕ) (small : Small t) (few : states t ≤ 10000) where
   unfolding pagesText rowsText
   row-line q i hq hi =
       let e : 73 * (q * rowLines (width t) + i) ≡ q * (rowLines (width t) * 73) + i * 73 = omega arith in
-      rw (e, each-piece (states t) (rowLines (width t) * 73) (λ q. each (rowLines (width t)) (rowLine t q)) fill row-long q (i * 73) 72 hq (omega arith)) (line-of-row q i hq hi)
+      rw (e, each-piece (states t) (rowLines (width t) * 73) (rowText t) fill row-long q (i * 73) 72 hq (omega arith)) (line-of-row q i hq hi)
 
   -- behind the opening: the cells, and blanks up to column 72
   abbrev padding : ℕ → ℕ → ℕ
@@ -125,7 +125,7 @@ module _ (t : List ℕ) (small : Small t) (few : states t ≤ 10000) where
 
   rows-long : length (rowsText t) ≡ states t * (rowLines (width t) * 73)
   unfolding rowsText
-  rows-long = each-length (states t) (rowLines (width t) * 73) (λ q. each (rowLines (width t)) (rowLine t q)) row-long
+  rows-long = each-length (states t) (rowLines (width t) * 73) (rowText t) row-long
 
   fill-line : (j : ℕ) → lineOn (pagesText t) (rows + j) ≡ take 72 (drop (73 * j) fill)
   unfolding pagesText

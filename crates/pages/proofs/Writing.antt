@@ -1,6 +1,6 @@
 -- Lines and rows are written part by part: each law goes from the parts' pages to the whole's.
 use mathlib.Core.Path.{_≡_, refl, sym, ap, _∙_}
-use mathlib.Core.List.{List, [], _∷_, _++_, append-assoc}
+use mathlib.Core.List.{List, [], _∷_, _++_, append-assoc, append-nil}
 use Prim.Native.Nat.{ℕ, zero, suc, _+_, _-_, _*_, _/_, _<_, _≤_}
 use native.Mathlib.Numerals.{add-one}
 use native.Mathlib.Nat.{mul-le-mul}
@@ -14,7 +14,7 @@ use Rattle.decimal.specs.Page.{Page, pageOf, page, wroteByte, wrote}
 use Rattle.decimal.proofs.Decimal.{decimal-one, decimal-more, decimal-length}
 use Rattle.decimal.proofs.Written.{wrote-joined, wrote-last, wrote-front}
 use Rattle.listing.proofs.Lines.{Placed, placed-next}
-use Rattle.pages.specs.Pages.{blanks, pageLine, aligned, rowLines, cellsOn, opening, rowLine, rowsText, fillLines, pagesText}
+use Rattle.pages.specs.Pages.{blanks, pageLine, aligned, rowLines, cellsOn, opening, rowLine, rowText, rowsText, fillLines, pagesText}
 use Rattle.pages.specs.Parts.{cellsFrom, lineFrom, rowFrom}
 use Rattle.pages.proofs.Lines.{aligned-columns, aligned-six}
 
@@ -57,10 +57,14 @@ one-digit n h = rw (decimal-one n h) refl
 pub one-less : (n : ℕ) → 10 ≤ n → length (decimalOf n) ≡ length (decimalOf (n / 10)) + 1
 one-less n h = rw (decimal-more n h, length-append) refl
 
+-- three texts one behind the other
+pub wrote-three : (p a b c : Page) (u v w : List ℕ) → a ≡ wrote p u → b ≡ wrote a v → c ≡ wrote b w → c ≡ wrote p (u ++ (v ++ w))
+wrote-three p a b c u v w e f g = wrote-joined p a c u (v ++ w) e (wrote-joined a b c v w f g)
+
 -- a number right-aligned, and the end of a line
-pub right-done : (k n d gap : ℕ) (p q r : Page) → d ≡ length (decimalOf n) → gap ≡ k - d → q ≡ wrote p (blanks gap) → r ≡ wrote q (decimalOf n) → r ≡ wrote p (aligned k n)
+pub right-done : (k n d gap : ℕ) (p q : Page) → d ≡ length (decimalOf n) → gap ≡ k - d → q ≡ wrote p (blanks gap ++ (decimalOf n ++ blanks 0)) → q ≡ wrote p (aligned k n)
 unfolding aligned
-right-done k n d gap p q r a b e f = wrote-joined p q r _ _ (rw (b, a) at e) f
+right-done k n d gap p q a b e = rw (append-nil (decimalOf n), b, a) at e
 
 pub end-done : (n gap : ℕ) (p q r : Page) → gap ≡ 72 - n → q ≡ wrote p (blanks gap) → r ≡ wroteByte q 10 → r ≡ wrote p (blanks (72 - n) ++ 10 ∷ [])
 end-done n gap p q r b e f = f ∙ rw (e, b) (wrote-last p (blanks (72 - n)) 10)
@@ -125,9 +129,6 @@ line-done t q i from n o p a r e l f k =
     rw (m, append-assoc, append-assoc, ← append-assoc (opening q i) (cellsFrom t from n)) (wrote-joined p a r _ _ e f)
 
 -- the row of a state is the one that begins at its place
-abbrev pub rowText : List ℕ → ℕ → List ℕ
-rowText t q = each (rowLines (width t)) (λ i. rowLine t q i)
-
 row-at : (t : List ℕ) (q : ℕ) → rowText t q ≡ rowFrom t q (rowAt (productions t) (states t) (width t) q) (width t)
 unfolding rowLine rowFrom lineFrom cellsFrom cellOf
 row-at t q = each-same (rowLines (width t)) _ _ (λ i h. ap (λ (cs : List ℕ). pageLine (opening q i ++ (cs ++ blanks 2))) (each-same (cellsOn (width t) i) _ _ (λ k l. ap (λ (n : ℕ). aligned 6 (getD t n 0)) (omega arith))))

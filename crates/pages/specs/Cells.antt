@@ -26,8 +26,8 @@ cellOn pages i k = numbersAt (4 + 6 * k) 6 (lineOn pages i)
 abbrev pub cellBack : List ℕ → ℕ → ℕ → ℕ → List ℕ
 cellBack pages w q x = cellOn pages (q * rowLines w + x / 11) (x % 11)
 
--- the same by looking, with the pages, q and x alone: some line opens with q, the x / 11 lines behind it open with no state,
--- and cell x % 11 of the last of them is v
+-- the same by looking, with the pages, q and x alone: some line opens with q, the x / 11 lines behind it open with no state, and
+-- on the last of these lines (where x < 11 on the first itself) cell x % 11 is v
 pub record Found (pages : List ℕ) (q x v : ℕ) : Type 0 where
   pub line : ℕ
   pub opens : stateOn pages line ≡ q ∷ []

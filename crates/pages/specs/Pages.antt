@@ -37,9 +37,12 @@ cellsText t q i = each (cellsOn (width t) i) (λ k. aligned 6 (cellOf t q (11 * 
 unfoldable pub rowLine : List ℕ → ℕ → ℕ → List ℕ
 rowLine t q i = pageLine (opening q i ++ (cellsText t q i ++ blanks 2))
 
--- the rows of all states
+-- the row of state q, and the rows of all states
+abbrev pub rowText : List ℕ → ℕ → List ℕ
+rowText t q = each (rowLines (width t)) (λ i. rowLine t q i)
+
 unfoldable pub rowsText : List ℕ → List ℕ
-rowsText t = each (states t) (λ q. each (rowLines (width t)) (λ i. rowLine t q i))
+rowsText t = each (states t) (λ q. rowText t q)
 
 -- the blank lines behind n lines: a page is "60 lines long", "The last page is filled with blank lines", and a full one has none behind it
 abbrev pub fillLines : ℕ → ℕ

@@ -50,13 +50,21 @@ fn spaces(out: &mut [u8], used: usize, count: usize) -> usize
     n
 }
 
+// A number with blanks before and behind it.
+fn field(out: &mut [u8], used: usize, before: usize, x: usize, after: usize) -> usize
+    ensures { λ r. ⌜ pageOf (now (out .exit)) r ≡ wrote (pageOf (now (out .entry)) used) (blanks before ++ (decimalOf x ++ blanks after)) ⌝ }
+{
+    let a = spaces(out, used, before);
+    let b = number(out, a, x);
+    spaces(out, b, after)
+}
+
 // A number in so many columns, right-aligned.
 fn right(out: &mut [u8], used: usize, columns: usize, x: usize) -> usize
     ensures { λ r. ⌜ pageOf (now (out .exit)) r ≡ wrote (pageOf (now (out .entry)) used) (aligned columns x) ⌝ }
 {
     let gap = missing(columns, digits(x));
-    let n = spaces(out, used, gap);
-    number(out, n, x)
+    field(out, used, gap, x, 0)
 }
 
 // The end of a line that has so many columns: blanks up to 72 and a line feed.

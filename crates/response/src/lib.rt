@@ -31,7 +31,7 @@ fn count(first: u16) -> usize
 }
 
 // The line of a refusal, from the front of the buffer.
-pub fn refusal(out: &mut [u8], answer: Answer) -> usize
+fn refusal(out: &mut [u8], answer: Answer) -> usize
     ensures { λ r. ⌜ pageOf (now (out .exit)) r ≡ page (now (out .entry)) (refusalText (numbers answer)) ⌝ }
     ensures { λ r. ⌜ Used r (now (out .exit)) ⌝ }
 {
@@ -52,7 +52,7 @@ fn table(out: &mut [u8], form: Form, t: &[u16]) -> usize
 }
 
 // The text of an answer, from the front of the buffer: the table, or the line of the refusal.
-pub fn respond(out: &mut [u8], form: Form, answer: Answer, t: &[u16]) -> usize
+fn respond(out: &mut [u8], form: Form, answer: Answer, t: &[u16]) -> usize
     ensures { λ r. ⌜ pageOf (now (out .exit)) r ≡ page (now (out .entry)) (responseText form (numbers answer) (now (t .entry))) ⌝ }
     ensures { λ r. ⌜ Used r (now (out .exit)) ⌝ }
 {
@@ -63,7 +63,7 @@ pub fn respond(out: &mut [u8], form: Form, answer: Answer, t: &[u16]) -> usize
 }
 
 // Makes the table of a card in the area and writes the text of the answer.
-pub fn reply(
+fn reply(
     card: &[u16],
     form: Form,
     table: &mut [u16],
