@@ -6,6 +6,7 @@ use Rattle.sets.specs.Lists.{each}
 use Rattle.tables.specs.Layout.{states, width, cellOf}
 use Rattle.decimal.specs.Digits.{decimalOf}
 
+-- so many blanks
 abbrev pub blanks : ℕ → List ℕ
 blanks n = replicate n 32
 
@@ -48,6 +49,7 @@ rowsText t = each (states t) (λ q. rowText t q)
 abbrev pub fillLines : ℕ → ℕ
 fillLines n = 60 * ((n + 59) / 60) - n
 
+-- the pages of a table: the rows, and blank lines behind them
 unfoldable pub pagesText : List ℕ → List ℕ
 pagesText t = rowsText t ++ each (fillLines (states t * rowLines (width t))) (λ i. pageLine [])
 
