@@ -1,17 +1,18 @@
 #!/bin/sh
-# All tests from outside, as the gate runs them: makes the archives and the program, gets Bison
+# All tests from outside, as the gate runs them: makes the archives and the programs, gets Bison
 # where it is missing and can be had, then tests the reader and the maker. Exit status 0: all passed.
 set -eu
 cd "$(dirname "$0")/.."
 rt staticlib parser_c
 rt staticlib generator_c
 rt check maketable
+rt check pagetable
 command -v bison >/dev/null || { apt-get install -y bison || { apt-get update && apt-get install -y bison; }; } >/dev/null 2>&1 ||
     echo "Bison cannot be installed here"
 # the reader's proofs serve limits and counts of 32 bits, too
 sh tests/width/run.sh
 sh tests/reader/run.sh
-MAKETABLE=target/bin/maketable sh tests/generator/run.sh
+MAKETABLE=target/bin/maketable PAGETABLE=target/bin/pagetable sh tests/generator/run.sh
 # the benchmark of long counts, with 4099 steps in place of 2^32 + 3
 NONTERMINALS=12 sh bench/reader/long.sh
 # the benchmark of what can follow, with short inputs: the sets are those that Bison expects
@@ -20,11 +21,12 @@ ROUNDS=1 LENGTHS="10 100 1000" sh bench/reader/offers.sh
 ROUNDS=1 PLACES=1 LENGTHS="10 100 1000" sh bench/reader/closed.sh
 # the scripts and the tool beside the proofs; the first call builds it
 ./explain <examples/a.card >/dev/null
-python3 tests/scripts/scripts.py target/bin/maketable target/cargo/release/explain
+python3 tests/scripts/scripts.py target/bin/maketable target/bin/pagetable target/cargo/release/explain
 sh tests/explain/run.sh
-# the examples' tables, and what the documents say
+# the examples' tables and pages, and what the documents say
 for example in a json nested pair; do
     ./maketable <examples/$example.card | cmp - examples/$example.table
+    ./pagetable <examples/$example.card | cmp - examples/$example.pages
 done
 echo "1 1 1 0 1 0" | ./maketable | cmp - examples/empty.table
 python3 tests/docs/check.py

@@ -1,7 +1,12 @@
-# What the scripts at the root share. A script sets `name`, its own, and `root`, the repository's folder, and reads this
-# file. It is beside the proofs: it builds a proved program or archive, runs it and makes a status of its answer.
+# What the scripts at the root share. A script sets `self`, its own path without links, and reads this file. It is beside
+# the proofs: it builds a proved program or archive, runs it and makes a status of its answer.
 #
-# Status: 0 for a table, 1 for a refusal or `not a card`, 2 for trouble, which is told on standard error.
+# Status: 0 where the card has a table, 1 for a refusal or `not a card`, 2 for trouble, which is told on standard error.
+set -eu
+# the script's own name, and the repository's folder, which is that of the script: at / it is empty
+name=${self##*/} root=${self%/*}
+# the lock is one for all scripts, the stamp of a build is the script's own
+lock=$root/target/build.lock stamp=$root/target/$name.built
 
 say() { printf '%s: %s\n' "$name" "$*" >&2 || :; }
 trouble() {
@@ -9,16 +14,16 @@ trouble() {
     exit 2
 }
 
-# A closed number would be given to the next file that is opened.
-streams() {
+# A script takes no argument, and both streams must be open: a closed number would be given to the next file that is
+# opened.
+card_on_input() { # ARGUMENTS..
+    [ $# -eq 0 ] || trouble "it takes no argument; the card comes on standard input: $name <card"
     { true 3<&0; } 2>/dev/null || trouble "read: standard input is closed"
     { true 3>&1; } 2>/dev/null || trouble "write: standard output is closed"
 }
 
 # Prints a source that is newer than the stamp; a folder is one where a file in it came or went.
-newer() { # STAMP PATH..
-    stamp=$1
-    shift
+newer() { # PATH..
     find "$@" -newer "$stamp" \( -type d -o -name crates.txt -o -name '*.rt' -o -name '*.antt' -o -name '*.rs' -o -name Cargo.toml \) |
         head -n 1
 }
@@ -29,9 +34,9 @@ stale() { # FILE PATH..
     shift
     if [ ! -x "$file" ]; then
         echo missing
-    elif [ ! -f "$root/target/$name.built" ]; then
+    elif [ ! -f "$stamp" ]; then
         echo "not known to be of its sources"
-    elif [ -n "$(newer "$root/target/$name.built" "$@")" ]; then
+    elif [ -n "$(newer "$@")" ]; then
         echo "older than its sources"
     fi
 }
@@ -84,24 +89,24 @@ built() { # FILE CRATE PATH..
     command -v rt >/dev/null || trouble "$file is $(stale "$file" "$@"), and the Rattle kit that builds it is not here: no rt on PATH"
     command -v flock >/dev/null || trouble "no flock on PATH, which keeps two builds apart (Debian: util-linux)"
     log=$root/target/$name.log began=$root/target/$name.began
-    if ! { mkdir -p "$root/target" && true >>"$root/target/build.lock"; } 2>/dev/null; then
+    if ! { mkdir -p "$root/target" && true >>"$lock"; } 2>/dev/null; then
         trouble "$file is $(stale "$file" "$@"), and it cannot be built: the folder $root/target cannot be written"
     fi
-    exec 9>>"$root/target/build.lock"
+    exec 9>>"$lock"
     if ! flock -n 9; then
-        say "another build is under way in $root: waiting for it"
-        flock 9 || trouble "$root/target/build.lock cannot be locked"
+        say "another build is under way in $root/target: waiting for it"
+        flock 9 || trouble "$lock cannot be locked"
     fi
     why=$(stale "$file" "$@")
     if [ -n "$why" ]; then
-        if ! { rm -f "$root/target/$name.built" && touch "$began" && true >"$log"; } 2>/dev/null; then
+        if ! { rm -f "$stamp" && touch "$began" && true >"$log"; } 2>/dev/null; then
             trouble "$file is $why, and it cannot be built: the folder $root/target cannot be written"
         fi
         say "$file is $why: building it; from nothing this takes minutes"
         exec 8>"$log"
         status=$({ {
             failed=0
-            (cd "$root" && recipe) </dev/null 2>&1 3>&- || failed=$?
+            (cd "$root/" && recipe) </dev/null 2>&1 3>&- || failed=$?
             echo "$failed" >&3
         } | follow "$(crates_of "$crate")"; } 3>&1)
         exec 8>&-
@@ -110,14 +115,15 @@ built() { # FILE CRATE PATH..
             trouble "it could not be built; all that was said is in $log"
         fi
         [ -x "$file" ] || trouble "the build has left no $file; what was said is in $log"
-        touch -r "$began" "$root/target/$name.built" || trouble "$root/target cannot be written"
+        touch -r "$began" "$stamp" || trouble "$root/target cannot be written"
         say built
     fi
     exec 9>&-
 }
 
 # Runs a program that reads a card and has no exit status (Rattle has none): where something went wrong it has said so and
-# printed nothing. What it prints is handed on byte for byte, and its first word makes the status.
+# printed nothing. What it prints is handed on byte for byte. How that begins makes the status: a table begins with another
+# word than a refusal, its pages with blanks.
 answer() { # PROGRAM
     status=0
     text=$(
@@ -140,10 +146,9 @@ answer() { # PROGRAM
     exit 0
 }
 
-# A proved program of crates/NAME that reads a card from standard input.
+# The proved program of crates/, named as the script, that reads a card from standard input.
 proved_program() { # ARGUMENTS..
-    [ $# -eq 0 ] || trouble "it takes no argument; the card comes on standard input: $name <card"
-    streams
+    card_on_input "$@"
     recipe() {
         # rt takes a proved program with a stamp for built
         [ -x "target/bin/$name" ] || rm -f "target/stamp/$name"

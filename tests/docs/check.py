@@ -191,7 +191,7 @@ def main():
     uneven, rows = layers(ROOT)
     faults += uneven
     # the first call of a script builds its program, and says so
-    for script in ["./maketable", "./explain"]:
+    for script in ["./maketable", "./pagetable", "./explain"]:
         subprocess.run([script], cwd=ROOT, stdin=subprocess.DEVNULL, stdout=subprocess.DEVNULL, timeout=3600)
     wrong, run = commands(ROOT)
     missed = planted() if not faults + wrong else []

@@ -1,11 +1,12 @@
-//! Links the archives named by GENERATOR_ARCHIVE, PARSER_ARCHIVE and LENGTHS_ARCHIVE.
-//! Without them the stand-ins of src/abi.rs take their place.
+//! Links the archives named by GENERATOR_ARCHIVE, PARSER_ARCHIVE, LENGTHS_ARCHIVE and
+//! PAGES_ARCHIVE. Without them the stand-ins of src/abi.rs take their place.
 
 fn main() {
     for (variable, cfg) in [
         ("GENERATOR_ARCHIVE", "generator_archive"),
         ("PARSER_ARCHIVE", "parser_archive"),
         ("LENGTHS_ARCHIVE", "lengths_archive"),
+        ("PAGES_ARCHIVE", "pages_archive"),
     ] {
         println!("cargo:rerun-if-env-changed={variable}");
         println!("cargo:rustc-check-cfg=cfg({cfg})");

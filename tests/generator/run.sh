@@ -1,16 +1,17 @@
 #!/bin/sh
 # Tests of the generator from outside: the archive's symbols, the reference's own
-# tests, planted faults, random cards, sums of completed sets, shortest lengths, the
-# comparison with Bison, the table of cases and the program maketable.
+# tests, planted faults, random cards, sums of completed sets, shortest lengths, tables
+# on pages, the comparison with Bison, the table of cases and the programs maketable
+# and pagetable.
 #
 #     tests/generator/run.sh
 #
 # GENERATOR_ARCHIVE and PARSER_ARCHIVE name the archives (`rt staticlib ..`),
-# MAKETABLE the program; without them those of target/ are taken, and a missing
-# program is skipped. LENGTHS_ARCHIVE names that of the lengths; without it
-# lengths.sh makes one. STAND_IN=1 runs all of it with the reference, and for the
-# lengths a second way, in their place. SEED and CARDS are those of the random tests.
-# Exit status 0: all passed.
+# MAKETABLE and PAGETABLE the programs; without them those of target/ are taken, and a
+# missing program is skipped. LENGTHS_ARCHIVE and PAGES_ARCHIVE name those of the lengths
+# and of the pages; without them lengths.sh and pages.sh make them. STAND_IN=1 runs all
+# of it with the reference, and for lengths and pages a second way, in their place. SEED
+# and CARDS are those of the random tests. Exit status 0: all passed.
 
 set -u
 tests=$(cd "$(dirname "$0")/.." && pwd)
@@ -19,26 +20,30 @@ built=${TEST_TARGET:-$root/target/tests}
 mkdir -p "$built" || exit 2
 export CARGO_TARGET_DIR="$built"
 failed=
-# the lengths' archive, where it need not be made
-named=${LENGTHS_ARCHIVE:-}
+# the archives of lengths and pages, where they need not be made
+lengths=${LENGTHS_ARCHIVE:-}
+pages=${PAGES_ARCHIVE:-}
 
 reference="$built/release/libreference_c.a"
 if [ -n "${STAND_IN:-}" ]; then
-    unset GENERATOR_ARCHIVE PARSER_ARCHIVE LENGTHS_ARCHIVE
+    unset GENERATOR_ARCHIVE PARSER_ARCHIVE LENGTHS_ARCHIVE PAGES_ARCHIVE
     generator=$reference
     parser=
     MAKETABLE="$built/release/maketable"
+    PAGETABLE="$built/release/pagetable"
 else
     GENERATOR_ARCHIVE=$(realpath -m "${GENERATOR_ARCHIVE:-$root/target/staticlib/libgenerator_c.a}")
     PARSER_ARCHIVE=$(realpath -m "${PARSER_ARCHIVE:-$root/target/staticlib/libparser_c.a}")
     for archive in "$GENERATOR_ARCHIVE" "$PARSER_ARCHIVE"; do
         [ -f "$archive" ] || { echo "no archive $archive"; exit 2; }
     done
-    LENGTHS_ARCHIVE=$(realpath -m "${named:-$root/target/lengths/target/staticlib/liblengths_c.a}")
-    export GENERATOR_ARCHIVE PARSER_ARCHIVE LENGTHS_ARCHIVE
+    LENGTHS_ARCHIVE=$(realpath -m "${lengths:-$root/target/lengths/target/staticlib/liblengths_c.a}")
+    PAGES_ARCHIVE=$(realpath -m "${pages:-$root/target/pages_archive/target/staticlib/libpages_c.a}")
+    export GENERATOR_ARCHIVE PARSER_ARCHIVE LENGTHS_ARCHIVE PAGES_ARCHIVE
     generator=$GENERATOR_ARCHIVE
     parser=$PARSER_ARCHIVE
     [ -n "${MAKETABLE:-}" ] || [ ! -x "$root/target/bin/maketable" ] || MAKETABLE="$root/target/bin/maketable"
+    [ -n "${PAGETABLE:-}" ] || [ ! -x "$root/target/bin/pagetable" ] || PAGETABLE="$root/target/bin/pagetable"
 fi
 
 # Runs a step, its output into a file; prints its seconds and the last line of it.
@@ -83,6 +88,13 @@ refused() {
     ! "$@" "$built/changed.txt"
 }
 
+# program_refused NAME: the program's script, with the reference's program, finds a changed cell, transition and refusal.
+program_refused() {
+    refused "$cell" "$tests/bison/data/small.txt" python3 "$tests/cases/$1.py" "$built/release/$1" &&
+        refused "$transition" "$tests/bison/data/small.txt" python3 "$tests/cases/$1.py" "$built/release/$1" &&
+        refused "$refusal" "$tests/bison/data/slow.txt" python3 "$tests/cases/$1.py" "$built/release/$1"
+}
+
 # The programs that compare find a changed cell, transition, entering symbol, refusal, answer and word of closed terminals.
 comparisons_fail() {
     cell='0,/^row 1 /s/:1025$/:1024/'
@@ -95,17 +107,33 @@ comparisons_fail() {
         refused '0,/^entered 0/s/^entered 0 1/entered 0 2/' "$tests/cases/cases.txt" "$built/cases" &&
         refused '0,/^answer 31 3 3 1 2 6 2/s/6 2$/4 1/' "$tests/cases/cases.txt" "$built/cases" &&
         refused '0,/^closed 2$/s/^closed 2$/closed 4/' "$tests/cases/cases.txt" "$built/cases" &&
-        refused "$cell" "$tests/bison/data/small.txt" python3 "$tests/cases/maketable.py" "$built/release/maketable" &&
-        refused "$transition" "$tests/bison/data/small.txt" python3 "$tests/cases/maketable.py" "$built/release/maketable" &&
-        refused "$refusal" "$tests/bison/data/slow.txt" python3 "$tests/cases/maketable.py" "$built/release/maketable" &&
-        echo "10 changed files found"
+        program_refused maketable && program_refused pagetable &&
+        echo "13 changed files found"
+}
+
+# with_stack KIB COMMAND..: with so much stack; the reference, which needs more, has what there is.
+with_stack() (
+    [ -n "${STAND_IN:-}" ] || ulimit -s "$1" || exit 1
+    shift
+    exec "$@"
+)
+
+# printing NAME VARIABLE PROGRAM: what a program over cards prints, and what it says of failing calls.
+printing() {
+    if [ -n "$3" ]; then
+        step "$1" with_stack 1024 python3 "$tests/cases/$1.py" "$3" "$tests"/bison/data/*.txt
+        [ -n "${STAND_IN:-}" ] || step "$1-failures" sh "$tests/cases/failures.sh" "$3"
+    else
+        echo "skipped $1: $2 names no program"
+    fi
 }
 
 all() {
     step reference-tests cargo test --offline --release --tests --manifest-path "$tests/reference/Cargo.toml"
     step build-reference cargo build --offline --release --manifest-path "$tests/reference/c/Cargo.toml"
-    step build-maketable cargo build --offline --release --manifest-path "$tests/reference/Cargo.toml"
-    [ -n "${STAND_IN:-}$named" ] || step build-lengths sh "$tests/generator/lengths.sh"
+    step build-programs cargo build --offline --release --manifest-path "$tests/reference/Cargo.toml"
+    [ -n "${STAND_IN:-}$lengths" ] || step build-lengths sh "$tests/generator/lengths.sh"
+    [ -n "${STAND_IN:-}$pages" ] || step build-pages sh "$tests/generator/pages.sh"
     step build-random cargo build --offline --release --manifest-path "$tests/generator/Cargo.toml"
     [ -n "${STAND_IN:-}" ] || step symbols symbols
     [ -n "${STAND_IN:-}" ] || step binding env SIDUMZA_LIB="$(dirname "$generator")" cargo test --offline --release \
@@ -123,6 +151,7 @@ all() {
     step random "$built/release/generator-tests" random
     step sums "$built/release/generator-tests" sums
     step lengths "$built/release/generator-tests" lengths
+    step pages "$built/release/generator-tests" pages
     if command -v bison >/dev/null; then
         step bison python3 "$tests/bison/bison.py" check
     else
@@ -133,12 +162,8 @@ all() {
     step cases-reference "$built/cases-reference" "$tests/cases/cases.txt"
     step cases "$built/cases" "$tests/cases/cases.txt"
     [ -n "${STAND_IN:-}" ] || step stack "$built/stack" "$tests"/bison/data/*.txt
-    if [ -n "${MAKETABLE:-}" ]; then
-        step maketable python3 "$tests/cases/maketable.py" "$MAKETABLE" "$tests"/bison/data/*.txt
-        [ -n "${STAND_IN:-}" ] || step maketable-failures sh "$tests/cases/failures.sh" "$MAKETABLE"
-    else
-        echo "skipped maketable: MAKETABLE names no program"
-    fi
+    printing maketable MAKETABLE "${MAKETABLE:-}"
+    printing pagetable PAGETABLE "${PAGETABLE:-}"
 }
 
 all

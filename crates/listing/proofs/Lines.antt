@@ -9,7 +9,7 @@ use lib.ListN.{length, getD}
 use Rattle.decimal.specs.Digits.{decimalOf}
 use Rattle.decimal.specs.Page.{Page, pageOf, page, wroteByte, wrote}
 use Rattle.decimal.proofs.Written.{wrote-append, wrote-joined, wrote-last, wrote-front}
-use Rattle.tables.specs.Layout.{states, terminals, nonterminals, productions, width, leftAt, lengthAt, headerSize, enteredAt, cellsAt}
+use Rattle.tables.specs.Layout.{states, productions, width, leftAt, lengthAt, headerSize, enteredAt, cellsAt}
 use Rattle.listing.specs.Listing.{spaced, lineOf, rowOf, rowWord, colonWord, tableText, tableWord, leftWord, lengthWord, enteredWord, refusalText, refusedWord}
 use Rattle.listing.specs.Parts.{part, arraysOf, rowFrom, rowsOf}
 use Rattle.listing.proofs.Parts.{part-whole, table-parts}
@@ -47,32 +47,53 @@ unfolding rowOf
 row-done n ns p a b c d e f g h i j =
     wrote-joined p a e _ _ f (wrote-joined a b e _ _ g (wrote-joined b c e _ _ h (ends ns c d e i j)))
 
--- what holds in the loop over the rows: what is left to write, the buffer's length, where the next row stands, and that no sum wraps
-pub record Going (t : List ℕ) (count columns : ℕ) (start : Page) (out : List ℕ) (from n q size : ℕ) : Type 0 where
-  pub same : wrote (pageOf out n) (rowsOf t q (count - q)) ≡ wrote start (rowsOf t 0 (states t))
-  pub kept : length out ≡ size
+-- the next row begins where the row ends
+pub row-next : (t : List ℕ) (q from columns : ℕ) → from ≡ rowFrom t q → columns ≡ width t → from + columns ≡ rowFrom t (q + 1)
+row-next t q from columns e f = rw (e, f, add-one, suc-mul q (width t)) (omega arith)
+
+-- what every loop over the rows has: how many there are, how wide they are and where the next one stands; and that no sum wraps
+pub record Placed (t : List ℕ) (count columns from q : ℕ) : Type 0 where
   pub place : from ≡ rowFrom t q
   pub wide : columns ≡ width t
+  pub all : count ≡ states t
   pub few : count < 65536
   pub narrow : columns < 131072
   pub room : from ≤ 196612 + q * 131072
 
-pub rows-start : (t : List ℕ) (count a b p from : ℕ) (out : List ℕ) (n : ℕ) → (count ≡ getD t 0 0) × (count < 65536) → (a ≡ getD t 1 0) × (a < 65536)
-    → (b ≡ getD t 2 0) × (b < 65536) → (p ≡ getD t 3 0) × (p < 65536) → from ≡ cellsAt p count → Going t count (a + b) (pageOf out n) out from n 0 (length out)
-unfolding states terminals nonterminals productions width
-rows-start t count a b p from out n e f g h i = record {
-  same = (let k : count - 0 ≡ states t = omega arith in rw k refl);
-  kept = refl;
+pub placed-start : (t : List ℕ) (count columns p from : ℕ) → (count ≡ getD t 0 0) × (count < 65536) → (columns ≡ width t) × (columns < 131072)
+    → (p ≡ getD t 3 0) × (p < 65536) → from ≡ cellsAt p count → Placed t count columns from 0
+unfolding states productions
+placed-start t count columns p from e f g h = record {
   place = rw (zero-mul) (omega arith);
-  wide = omega arith;
-  few = omega arith;
-  narrow = omega arith;
+  wide = f .0;
+  all = e .0;
+  few = e .1;
+  narrow = f .1;
   room = omega arith;
 }
 
--- the next row begins where the row ends
-pub row-next : (t : List ℕ) (q from columns : ℕ) → from ≡ rowFrom t q → columns ≡ width t → from + columns ≡ rowFrom t (q + 1)
-row-next t q from columns e f = rw (e, f, add-one, suc-mul q (width t)) (omega arith)
+pub placed-next : {t : List ℕ} {count columns from q : ℕ} → Placed t count columns from q → Placed t count columns (from + columns) (q + 1)
+placed-next {t} {count} {columns} {from} {q} g = record {
+  place = row-next t q from columns (g .place) (g .wide);
+  wide = g .wide;
+  all = g .all;
+  few = g .few;
+  narrow = g .narrow;
+  room = omega (arith, g .room, g .narrow);
+}
+
+-- what holds in the loop that writes them: what is left to write, and the buffer's length
+pub record Going (t : List ℕ) (count columns : ℕ) (start : Page) (out : List ℕ) (from n q size : ℕ) : Type 0 where
+  pub placed : Placed t count columns from q
+  pub same : wrote (pageOf out n) (rowsOf t q (count - q)) ≡ wrote start (rowsOf t 0 (states t))
+  pub kept : length out ≡ size
+
+pub rows-start : (t : List ℕ) (count columns from : ℕ) (out : List ℕ) (n : ℕ) → Placed t count columns from 0 → Going t count columns (pageOf out n) out from n 0 (length out)
+rows-start t count columns from out n g = record {
+  placed = g;
+  same = (let k : count - 0 ≡ states t = omega (arith, g .all) in rw k refl);
+  kept = refl;
+}
 
 rows-more : (t : List ℕ) (q n from columns : ℕ) (p r : Page) → q < n → from ≡ rowFrom t q → columns ≡ width t
     → r ≡ wrote p (rowOf q (part t from (from + columns - from))) → wrote r (rowsOf t (q + 1) (n - (q + 1))) ≡ wrote p (rowsOf t q (n - q))
@@ -86,13 +107,9 @@ pub rows-next : (t : List ℕ) (count columns : ℕ) (start : Page) (out : List 
     → Going t count columns start out from n q size → q < count → length next ≡ length out
     → pageOf next m ≡ wrote (pageOf out n) (rowOf q (part t from (from + columns - from))) → Going t count columns start next (from + columns) m (q + 1) size
 rows-next t count columns start out from n q size next m g h l e = record {
-  same = rows-more t q count from columns (pageOf out n) (pageOf next m) h (g .place) (g .wide) e ∙ g .same;
+  placed = placed-next (g .placed);
+  same = rows-more t q count from columns (pageOf out n) (pageOf next m) h (g .placed .place) (g .placed .wide) e ∙ g .same;
   kept = l ∙ g .kept;
-  place = row-next t q from columns (g .place) (g .wide);
-  wide = g .wide;
-  few = g .few;
-  narrow = g .narrow;
-  room = omega arith;
 }
 
 pub rows-done : (t : List ℕ) (q n : ℕ) (p : Page) → n ≤ q → wrote p (rowsOf t q (n - q)) ≡ p

@@ -32,7 +32,7 @@ run-goes-on : (v d : ℕ) (bs : List ℕ) → d < 10 → runs (some v) ((48 + d)
 unfolding runs
 run-goes-on v d bs h = let e : 48 + d - 48 ≡ d = omega arith in rw (a-digit d h, runs, e) refl
 
-reads : {ds : List ℕ} {n : ℕ} → Numeral ds n → (bs : List ℕ) → runs none (ds ++ bs) ≡ runs (some n) bs
+pub reads : {ds : List ℕ} {n : ℕ} → Numeral ds n → (bs : List ℕ) → runs none (ds ++ bs) ≡ runs (some n) bs
 reads (digit {d} h) bs = run-begins d bs h
 reads (longer {ds} {n} {d} x h) bs = rw append-assoc (reads x ((48 + d) ∷ bs) ∙ run-goes-on n d bs h)
 

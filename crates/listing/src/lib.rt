@@ -3,7 +3,7 @@ ghost use mathlib.Core.Path.{_≡_};
 ghost use Prim.Native.Nat.{_-_, _<_};
 ghost use lib.ListN.{getD};
 ghost use Rattle.decimal.specs.Page.{pageOf, page, wrote, Used};
-ghost use Rattle.tables.specs.Layout.{states};
+ghost use Rattle.tables.specs.Layout.{states, width};
 ghost use Rattle.listing.specs.Listing.{spaced, lineOf, rowOf, tableText, refusalText, notACard};
 ghost use Rattle.listing.specs.Parts.{part, arraysOf, rowsOf};
 use decimal::number;
@@ -14,10 +14,17 @@ use decimal::word;
 pub const TEXT: usize = 196658;
 
 // The number at place i, and 0 past the end.
-fn at(s: &[u16], i: usize) -> usize
+pub fn at(s: &[u16], i: usize) -> usize
     ensures { λ r. ⌜ (r ≡ getD (now (s .entry)) i 0) × (r < 65536) ⌝ }
 {
     if i < s.len() { s[i] as usize } else { 0 }
+}
+
+// How many cells a row has.
+pub fn row_width(t: &[u16]) -> usize
+    ensures { λ r. ⌜ (r ≡ width (now (t .entry))) × (r < 131072) ⌝ }
+{
+    at(t, tables::TERMINALS) + at(t, tables::NONTERMINALS)
 }
 
 // The numbers from one place up to another, each behind a blank.
@@ -73,7 +80,7 @@ fn rows(out: &mut [u8], used: usize, t: &[u16]) -> usize
     ensures { λ r. ⌜ pageOf (now (out .exit)) r ≡ wrote (pageOf (now (out .entry)) used) (rowsOf (now (t .entry)) 0 (states (now (t .entry)))) ⌝ }
 {
     let count = at(t, tables::STATES);
-    let width = at(t, tables::TERMINALS) + at(t, tables::NONTERMINALS);
+    let width = row_width(t);
     let mut from = tables::cells_at(at(t, tables::PRODUCTIONS), count);
     let mut n = used;
     let mut q = 0;

@@ -1,6 +1,7 @@
 -- What the numbers of an answer are, for every card.
 use mathlib.Core.Path.{_≡_, refl}
 use mathlib.Core.List.{List, [], _∷_}
+use mathlib.Core.Logic.{_≢_}
 use Prim.Native.Nat.{ℕ, zero, suc, _+_, _≤_, _<_}
 use native.Mathlib.Omega.{arith}
 use lib.ListN.{length, getD}
@@ -72,3 +73,11 @@ answer-printed c = go (formFault c) refl
     go : (n : ℕ) → formFault c ≡ n → Printed (cardAnswer c)
     go zero e = judged c e (card-answer c e (cardAnswer c) .0 refl)
     go (suc n) e = rw (e, cardAnswer) (alone (suc n) (omega arith) (omega (arith, fault-most c)))
+
+-- an answer without a table is a refusal
+pub not-made : (c : List ℕ) → cardAnswer c ≢ made → Refusal (cardAnswer c)
+not-made c n = go (answer-printed c) n
+  where
+    go : {a : Answer} → Printed a → a ≢ made → Refusal a
+    go table n = absurd (n refl)
+    go (line a r) n = r

@@ -9,20 +9,24 @@ use Rattle.decimal.specs.Page.{Page, pageOf, page}
 use Rattle.lalr.specs.Answer.{Generated}
 use Rattle.generator.specs.declared.Answer.{Answer}
 use Rattle.generator.specs.Answer.{numbers, GeneratesAs}
-use Rattle.listing.specs.Listing.{tableText, refusalText}
-use Rattle.response.specs.Response.{responseText, RepliesAs}
+use Rattle.listing.specs.Listing.{refusalText}
+use Rattle.response.specs.declared.Form.{Form}
+use Rattle.response.specs.Response.{tableIn, responseText, RepliesAs}
 
-module _ (out t ns : List ℕ) (p : Page) where
-  pub prints-table : getD ns 0 0 ≡ 0 → p ≡ page out (tableText t) → p ≡ page out (responseText ns t)
-  unfolding responseText
-  prints-table h e = rw (eq-eqb (getD ns 0 0) 0 h) e
+module _ (form : Form) (out t : List ℕ) (p : Page) where
+  pub prints-form : {f : Form} → form ≡ f → p ≡ page out (tableIn f t) → p ≡ page out (tableIn form t)
+  prints-form h e = rw h e
 
-  pub prints-refusal : getD ns 0 0 ≢ 0 → p ≡ page out (refusalText ns) → p ≡ page out (responseText ns t)
+  pub prints-table : (ns : List ℕ) → getD ns 0 0 ≡ 0 → p ≡ page out (tableIn form t) → p ≡ page out (responseText form ns t)
   unfolding responseText
-  prints-refusal h e = rw (ne-eqb (getD ns 0 0) 0 h) e
+  prints-table ns h e = rw (eq-eqb (getD ns 0 0) 0 h) e
+
+  pub prints-refusal : (ns : List ℕ) → getD ns 0 0 ≢ 0 → p ≡ page out (refusalText ns) → p ≡ page out (responseText form ns t)
+  unfolding responseText
+  prints-refusal ns h e = rw (ne-eqb (getD ns 0 0) 0 h) e
 
 -- an answer of the maker, and its text
-pub replies : (g : Generated) (a : Answer) (t z w before after : List ℕ) (n : ℕ) → GeneratesAs g a t z w
-    → pageOf after n ≡ page before (responseText (numbers a) t) → RepliesAs g before after n t z w
-replies g a t z w before after n m e =
+pub replies : (form : Form) (g : Generated) (a : Answer) (t z w before after : List ℕ) (n : ℕ) → GeneratesAs g a t z w
+    → pageOf after n ≡ page before (responseText form (numbers a) t) → RepliesAs form g before after n t z w
+replies form g a t z w before after n m e =
     record { text = rw (← m .answer, ← m .table) e; table = m .table; words = m .words; halves = m .halves }

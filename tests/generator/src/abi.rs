@@ -1,10 +1,12 @@
 //! The C functions under test. Where an archive is not linked, the reference's
-//! second way, its parser and lengths by rounds stand in.
+//! second way, its parser, lengths by rounds and pages by lines stand in.
 
 use reference::parser;
 
 #[cfg(not(lengths_archive))]
 use crate::lengths::faults;
+#[cfg(not(pages_archive))]
+use crate::pages::faults as lines;
 
 #[cfg(generator_archive)]
 pub const GENERATOR: &str = "archive";
@@ -20,6 +22,11 @@ pub const PARSER: &str = "stand-in";
 pub const LENGTHS: &str = "archive";
 #[cfg(not(lengths_archive))]
 pub const LENGTHS: &str = "stand-in";
+
+#[cfg(pages_archive)]
+pub const PAGES: &str = "archive";
+#[cfg(not(pages_archive))]
+pub const PAGES: &str = "stand-in";
 
 #[cfg(generator_archive)]
 extern "C" {
@@ -99,6 +106,11 @@ extern "C" {
     fn sidumza_shortest(card: *const u16, card_len: usize, out: *mut u16) -> u16;
 }
 
+#[cfg(pages_archive)]
+extern "C" {
+    fn sidumza_pages(table: *const u16, table_len: usize, out: *mut u8, out_len: usize) -> usize;
+}
+
 /// Makes a table: card, table area, both work areas.
 pub type Generator = dyn Fn(&[u16], &mut [u16], &mut [u64], &mut [u32]) -> [u64; 5];
 
@@ -110,6 +122,9 @@ pub type Choir = dyn Fn(&[u16], &[u8], u64, &mut [u16], &mut [u16], &mut [u16], 
 
 /// Gives the lengths of a card's nonterminals, or the number of its fault of form.
 pub type Shortest = dyn Fn(&[u16], &mut [u16; 60]) -> u16;
+
+/// Writes the pages of a table into a buffer; gives how many bytes are used.
+pub type Pages = dyn Fn(&[u16], &mut [u8]) -> usize;
 
 /// Both calls of a parser: the publisher's and the choir's.
 #[derive(Clone, Copy)]
@@ -219,4 +234,14 @@ pub fn shortest(card: &[u16], out: &mut [u16; 60]) -> u16 {
 #[cfg(not(lengths_archive))]
 pub fn shortest(card: &[u16], out: &mut [u16; 60]) -> u16 {
     faults::shortest(card, out, faults::Fault::None)
+}
+
+#[cfg(pages_archive)]
+pub fn pages(table: &[u16], out: &mut [u8]) -> usize {
+    unsafe { sidumza_pages(table.as_ptr(), table.len(), out.as_mut_ptr(), out.len()) }
+}
+
+#[cfg(not(pages_archive))]
+pub fn pages(table: &[u16], out: &mut [u8]) -> usize {
+    lines::pages(table, out, lines::Fault::None)
 }

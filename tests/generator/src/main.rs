@@ -6,6 +6,8 @@
 //!     generator-tests reads-behind      dies: its generator looks at a symbol behind L
 //!     generator-tests sums              compares joins of completed families with the archive
 //!     generator-tests lengths           compares shortest lengths with the reference
+//!     generator-tests pages             compares tables on pages with the reference
+//!     generator-tests pages-behind WHAT dies: its pages touch what is behind an area
 //!     generator-tests measure FILE..    prints sizes and times of stored cards
 //!     generator-tests climb WHAT FILE.. looks for cards with more WHAT: time, reads,
 //!                                       includes or edges
@@ -24,6 +26,7 @@ mod lengths;
 mod lookaheads;
 mod measure;
 mod offers;
+mod pages;
 mod parsers;
 mod pass;
 mod readings;
@@ -169,10 +172,10 @@ fn reads_behind(seed: u64, cards: u64) -> bool {
 /// The signal for memory that may not be touched.
 const SIGSEGV: i32 = 11;
 
-/// Whether a process of its own is ended by that signal in `reads_behind`.
-fn reads_behind_dies() -> bool {
+/// Whether a process of its own, with these arguments, is ended by that signal.
+fn dies(arguments: &[&str]) -> bool {
     let program = std::env::current_exe().expect("this program");
-    let status = Command::new(program).arg("reads-behind").status().expect("a process");
+    let status = Command::new(program).args(arguments).status().expect("a process");
     status.signal() == Some(SIGSEGV)
 }
 
@@ -254,7 +257,7 @@ fn self_check(seed: u64, cards: u64) -> bool {
     }
     let mut tally = Tally::default();
     look_for_all(seed, cards, &mut tally);
-    let died = reads_behind_dies().then(|| (0, "ended by a signal".to_string()));
+    let died = dies(&["reads-behind"]).then(|| (0, "ended by a signal".to_string()));
     tally.tell("a symbol behind L looked at", died);
     println!("{} wrong generators and parsers, {} not found", tally.told, tally.missed);
     tally.missed == 0
@@ -271,6 +274,8 @@ fn main() -> ExitCode {
         ["reads-behind"] => reads_behind(seed, cards),
         ["sums"] => sums::sums(seed, setting("CARDS", 10_000)),
         ["lengths"] => lengths::lengths(seed, cards),
+        ["pages"] => pages::pages(seed, setting("CARDS", 10_000)),
+        ["pages-behind", what] => pages::behind(what),
         ["measure", _, ..] => measure::measure_files(&arguments[1..]),
         ["climb", what, _, ..] => {
             let mut random = Random::new(seed);
@@ -278,7 +283,8 @@ fn main() -> ExitCode {
         }
         _ => {
             println!(
-                "random, self-check, reads-behind, sums, lengths, measure FILE.. or climb WHAT FILE.."
+                "random, self-check, reads-behind, sums, lengths, pages, pages-behind WHAT, \
+                 measure FILE.. or climb WHAT FILE.."
             );
             false
         }

@@ -3,7 +3,8 @@
 //! (LR(0) sets with lookaheads spread to a fixed point). No relations of
 //! nonterminal transitions are used here: the generator works with those.
 //!
-//! The membership tests (`earley`, `spans`) know nothing of LR.
+//! The membership tests (`earley`, `spans`) know nothing of LR, and `pages` nothing
+//! of how a table is made.
 
 #![allow(clippy::needless_range_loop, clippy::collapsible_match)]
 
@@ -17,7 +18,9 @@ mod hash;
 pub mod items;
 pub mod lr0;
 pub mod lr1;
+pub mod pages;
 pub mod parser;
+pub mod program;
 pub mod random;
 pub mod shortest;
 pub mod spans;

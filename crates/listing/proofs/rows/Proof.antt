@@ -5,7 +5,7 @@ use mathlib.Core.Path.{sym, _∙_}
 use native.Mathlib.Omega.{arith}
 use lib.ListN.{length}
 use Rattle.decimal.specs.Page.{pageOf}
-use Rattle.listing.proofs.Lines.{Going, rows-start, rows-next, rows-done}
+use Rattle.listing.proofs.Lines.{placed-start, Going, rows-start, rows-next, rows-done}
 use Rattle.listing.proofs.rows.Statement.{statement}
 use Rattle.listing.proofs.rows.Tie as tie
 
@@ -18,24 +18,19 @@ abbrev μ-loop : tie.MeasureT-loop
 at-requires : tie.Need-at-requires Inv-loop μ-loop
 at-requires c κs = search needs
 
+row-width-requires : tie.Need-row-width-requires Inv-loop μ-loop
+row-width-requires c κs = search needs
+
 at-requires-2 : tie.Need-at-requires-2 Inv-loop μ-loop
 at-requires-2 c κs = search needs
-
-at-requires-3 : tie.Need-at-requires-3 Inv-loop μ-loop
-at-requires-3 c κs = search needs
-
-add-width : tie.Need-add-width Inv-loop μ-loop
-add-width c = omega (arith, c .before .before .at .ensures .1, c .before .at2 .ensures .1, c .at3 .ensures .1)
-
-at-requires-4 : tie.Need-at-requires-4 Inv-loop μ-loop
-at-requires-4 c κs = search needs
 
 cells-at-requires : tie.Need-cells-at-requires Inv-loop μ-loop
 cells-at-requires c κs = search needs
 
 loop-holds : tie.Need-loop-holds Inv-loop μ-loop
 loop-holds c =
-    rows-start _ _ _ _ _ _ _ _ (c .before .before .before .before .at .ensures) (c .before .before .before .at2 .ensures) (c .before .before .at3 .ensures) (c .before .at4 .ensures) (c .cells-at .ensures)
+    let b1 = c .before in
+    rows-start _ _ _ _ _ _ (placed-start _ _ _ _ _ (b1 .before .before .at .ensures) (b1 .before .row-width .ensures) (b1 .at2 .ensures) (c .cells-at .ensures))
 
 add-row : tie.Need-add-row Inv-loop μ-loop
 add-row c = omega arith
@@ -53,7 +48,10 @@ loop-less : tie.Need-loop-less Inv-loop μ-loop
 loop-less c = omega arith
 
 loop-again : tie.Need-loop-again Inv-loop μ-loop
-loop-again c = rows-next _ _ _ _ _ _ _ _ _ _ _ (c .before .before .before .before .before .loop .inv) (c .before .before .before .before .loop-test .taken) (c .before .before .row .kept .0) (c .before .before .row .ensures)
+loop-again c =
+    let b2 = c .before .before in
+    let b4 = b2 .before .before in
+    rows-next _ _ _ _ _ _ _ _ _ _ _ (b4 .before .loop .inv) (b4 .loop-test .taken) (b2 .row .kept .0) (b2 .row .ensures)
 
 same-length : tie.Need-same-length Inv-loop μ-loop
 same-length c = c .before .loop .inv .kept
@@ -68,10 +66,8 @@ rows-spec =
     Inv-loop
     μ-loop
     at-requires
+    row-width-requires
     at-requires-2
-    at-requires-3
-    add-width
-    at-requires-4
     cells-at-requires
     loop-holds
     add-row

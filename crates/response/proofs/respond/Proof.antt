@@ -14,13 +14,13 @@ use Rattle.response.proofs.respond.Tie as tie
 returns : tie.Need-returns
 returns c =
     let b2 = c .before .before in
-    (prints-table _ _ _ _ (ap (λ (a : Answer). getD (numbers a) 0 0) (b2 .before .before .enum-told .given .1)) (b2 .table .ensures .0), b2 .table .ensures .1)
+    (prints-table _ _ _ _ _ (ap (λ (a : Answer). getD (numbers a) 0 0) (b2 .before .before .enum-told .given .1)) (b2 .table .ensures .0), b2 .table .ensures .1)
 
 returns-2 : tie.Need-returns-2
 returns-2 c =
     let b2 = c .before .before in
     let b4 = b2 .before .before in
-    (prints-refusal _ _ _ _ (λ z. (let h = only-table (b4 .before .before .before .args .answer) z in let k = rw h at (b4 .match .keys2) in miss (1 ∷ 2 ∷ 3 ∷ 4 ∷ 5 ∷ 6 ∷ 7 ∷ []) 0 tt k)) (b2 .refusal .ensures .0), b2 .refusal .ensures .1)
+    (prints-refusal _ _ _ _ _ (λ z. (let h = only-table (b4 .before .before .before .args .answer) z in let k = rw h at (b4 .match .keys2) in miss (1 ∷ 2 ∷ 3 ∷ 4 ∷ 5 ∷ 6 ∷ 7 ∷ []) 0 tt k)) (b2 .refusal .ensures .0), b2 .refusal .ensures .1)
 
 pub respond-spec : {M : Type 1} → statement M
 respond-spec =

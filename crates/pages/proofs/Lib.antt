@@ -1,0 +1,7 @@
+pub mod Form
+pub mod Front
+pub mod Lines
+pub mod Pieces
+pub mod ReadBack
+pub mod Room
+pub mod Writing

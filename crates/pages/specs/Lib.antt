@@ -1,0 +1,4 @@
+pub mod Cells
+pub mod Pages
+pub mod Parts
+pub mod Sheets

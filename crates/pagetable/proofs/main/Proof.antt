@@ -1,0 +1,23 @@
+-- `main` meets its contract: what it prints is the answer to what was read, whatever bytes it was.
+use native.Mathlib.Omega.{arith}
+use borrow.Author.Needs.{needs}
+use Rattle.pages.specs.Pages.{pagesSize}
+use Rattle.response.proofs.Whole.{zeros-long}
+use Rattle.pagetable.proofs.main.Statement.{statement}
+use Rattle.pagetable.proofs.main.Tie as tie
+
+print-requires : tie.Need-print-requires
+print-requires c κs bs came = c .before .before .before .answer .ensures .0 bs came (let l = zeros-long pagesSize in omega (arith, l))
+
+pub main-spec : {M : Type 1} → statement M
+main-spec =
+    tie.close
+    (tie.spec
+    (λ c. search needs)
+    (λ c κs. search needs)
+    (λ c. search needs)
+    (λ c κs. search needs)
+    (λ c. search needs)
+    (λ c. search needs)
+    print-requires
+    (λ c. search needs))
