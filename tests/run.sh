@@ -4,11 +4,11 @@
 # Exit status 0: all passed.
 set -eu
 cd "$(dirname "$0")/.."
+# all that is needed in one call, so that both cores have something to prove
+rt check parser generator merge maketable pagetable
 rt staticlib parser_c
 rt staticlib generator_c
 rt staticlib merge_c
-rt check maketable
-rt check pagetable
 command -v bison >/dev/null || { apt-get install -y bison || { apt-get update && apt-get install -y bison; }; } >/dev/null 2>&1 ||
     echo "Bison cannot be installed here"
 # the reader's proofs with limits and counts of 32 bits, and its tests; what they say is shown behind the maker's
