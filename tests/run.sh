@@ -4,8 +4,8 @@
 # Exit status 0: all passed.
 set -eu
 cd "$(dirname "$0")/.."
-# all that is needed in one call, so that both cores have something to prove
-rt check parser generator merge maketable pagetable
+# most of what is needed in one call, and more at a time than there are cores, so that none waits for another
+RT_JOBS=${RT_JOBS:-6} rt check parser generator merge maketable pagetable
 rt staticlib parser_c
 rt staticlib generator_c
 rt staticlib merge_c
