@@ -10,6 +10,14 @@ use Rattle.grammar.proofs.CardLaws.{WellFormed, right-is, right-at}
 use Rattle.merged_card.specs.Merged.{ofFirst, ofSecond, mergedSizes, mergedLefts, mergedLengths, mergedSymbols, mergedCard}
 use Rattle.merged_card.proofs.ArrayLaws.{same-ones, map-each, skip, array-length, array-first, array-second}
 
+-- production i of the card m is production r of the card c, each symbol moved by f
+right-moved : (m c : List ℕ) (f : ℕ → ℕ) (i r : ℕ) → i < productions m → r < productions c → lengthOf m i ≡ lengthOf c r
+    → ((d : ℕ) → d < lengthOf c r → symbolOf m (startOf m i + d) ≡ f (symbolOf c (startOf c r + d))) → rightOf m i ≡ map f (rightOf c r)
+right-moved m c f i r h k e at =
+    right-is m i h
+    ∙ rw e (same-ones (lengthOf c r) _ _ at)
+    ∙ sym (ap (map f) (right-is c r k) ∙ map-each f (lengthOf c r) (λ d. symbolOf c (startOf c r + d)))
+
 module _ (a b : List ℕ) where
   -- ---- the sizes, and how long the card and its arrays are
 
@@ -127,10 +135,7 @@ module _ (a b : List ℕ) where
 
   -- a right side of either card, symbol by symbol
   pub right-first : WellFormed a → (r : ℕ) → r < productions a → rightOf (mergedCard a b) (2 + r) ≡ map (ofFirst a b) (rightOf a r)
-  right-first w r h =
-      right-is (mergedCard a b) (2 + r) (omega (arith, merged-productions))
-      ∙ rw (length-first r h) (same-ones (lengthOf a r) _ _ at)
-      ∙ sym (ap (map (ofFirst a b)) (right-is a r h) ∙ map-each (ofFirst a b) (lengthOf a r) (λ d. symbolOf a (startOf a r + d)))
+  right-first w r h = right-moved (mergedCard a b) a (ofFirst a b) (2 + r) r (omega (arith, merged-productions)) h (length-first r h) at
     where
       at : (d : ℕ) → d < lengthOf a r → symbolOf (mergedCard a b) (startOf (mergedCard a b) (2 + r) + d) ≡ ofFirst a b (symbolOf a (startOf a r + d))
       at d k =
@@ -138,10 +143,7 @@ module _ (a b : List ℕ) where
           rw e (symbol-at (2 + (startOf a r + d)) ∙ array-first _ _ (symbols a) _ (symbols b) _ (startOf a r + d) (right-at a w r d h k))
 
   pub right-second : WellFormed a → WellFormed b → (r : ℕ) → r < productions b → rightOf (mergedCard a b) (2 + (productions a + r)) ≡ map (ofSecond a b) (rightOf b r)
-  right-second v w r h =
-      right-is (mergedCard a b) (2 + (productions a + r)) (omega (arith, merged-productions))
-      ∙ rw (length-second r h) (same-ones (lengthOf b r) _ _ at)
-      ∙ sym (ap (map (ofSecond a b)) (right-is b r h) ∙ map-each (ofSecond a b) (lengthOf b r) (λ d. symbolOf b (startOf b r + d)))
+  right-second v w r h = right-moved (mergedCard a b) b (ofSecond a b) (2 + (productions a + r)) r (omega (arith, merged-productions)) h (length-second r h) at
     where
       at : (d : ℕ) → d < lengthOf b r → symbolOf (mergedCard a b) (startOf (mergedCard a b) (2 + (productions a + r)) + d) ≡ ofSecond a b (symbolOf b (startOf b r + d))
       at d k =
