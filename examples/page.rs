@@ -22,7 +22,7 @@ use sidumza::{entered, parse, parse_restricted, read_table, terminals, Answer, C
 use std::io::{BufRead, Write};
 
 fn fail(why: String) -> ! {
-    eprintln!("page: {why}");
+    let _ = writeln!(std::io::stderr(), "page: {why}");
     std::process::exit(2)
 }
 

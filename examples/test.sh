@@ -38,7 +38,7 @@ bad() {
     fi
 }
 
-for example in a json nested pair; do
+for example in a json nested pair hymnal; do
     "$page" "$here/$example.table" <"$here/$example.lines" >"$tmp/out" || failed=1
     same $example.lines "$here/$example.expected"
 done

@@ -6,7 +6,7 @@ fn main() {
     let here = PathBuf::from(std::env::var_os("CARGO_MANIFEST_DIR").expect("cargo sets it"));
     let folder = std::env::var_os("SIDUMZA_LIB").map_or(here.join("../../target/staticlib"), PathBuf::from);
     println!("cargo:rustc-link-search=native={}", folder.display());
-    for (feature, name) in [("PARSER", "parser_c"), ("GENERATOR", "generator_c")] {
+    for (feature, name) in [("PARSER", "parser_c"), ("GENERATOR", "generator_c"), ("MERGE", "merge_c")] {
         if std::env::var_os(format!("CARGO_FEATURE_{feature}")).is_none() {
             continue;
         }

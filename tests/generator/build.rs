@@ -1,5 +1,5 @@
-//! Links the archives named by GENERATOR_ARCHIVE, PARSER_ARCHIVE, LENGTHS_ARCHIVE and
-//! PAGES_ARCHIVE. Without them the stand-ins of src/abi.rs take their place.
+//! Links the archives named by GENERATOR_ARCHIVE, PARSER_ARCHIVE, LENGTHS_ARCHIVE,
+//! PAGES_ARCHIVE and MERGE_ARCHIVE. Without them the stand-ins of src/abi.rs take their place.
 
 fn main() {
     for (variable, cfg) in [
@@ -7,6 +7,7 @@ fn main() {
         ("PARSER_ARCHIVE", "parser_archive"),
         ("LENGTHS_ARCHIVE", "lengths_archive"),
         ("PAGES_ARCHIVE", "pages_archive"),
+        ("MERGE_ARCHIVE", "merge_archive"),
     ] {
         println!("cargo:rerun-if-env-changed={variable}");
         println!("cargo:rustc-check-cfg=cfg({cfg})");

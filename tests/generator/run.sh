@@ -1,17 +1,17 @@
 #!/bin/sh
-# Tests of the generator from outside: the archive's symbols, the reference's own
+# Tests of the generator from outside: the archives' symbols, the reference's own
 # tests, planted faults, random cards, sums of completed sets, shortest lengths, tables
-# on pages, the comparison with Bison, the table of cases and the programs maketable
-# and pagetable.
+# on pages, merged cards with the example programs that merge, the comparison with Bison,
+# the table of cases and the programs maketable and pagetable.
 #
 #     tests/generator/run.sh
 #
-# GENERATOR_ARCHIVE and PARSER_ARCHIVE name the archives (`rt staticlib ..`),
-# MAKETABLE and PAGETABLE the programs; without them those of target/ are taken, and a
-# missing program is skipped. LENGTHS_ARCHIVE and PAGES_ARCHIVE name those of the lengths
-# and of the pages; without them lengths.sh and pages.sh make them. STAND_IN=1 runs all
-# of it with the reference, and for lengths and pages a second way, in their place. SEED
-# and CARDS are those of the random tests. Exit status 0: all passed.
+# GENERATOR_ARCHIVE, PARSER_ARCHIVE and MERGE_ARCHIVE name the archives (`rt staticlib
+# ..`), MAKETABLE and PAGETABLE the programs; without them those of target/ are taken, and
+# a missing program is skipped. LENGTHS_ARCHIVE and PAGES_ARCHIVE name those of the
+# lengths and of the pages; without them lengths.sh and pages.sh make them. STAND_IN=1
+# runs all of it with the reference, and for lengths, pages and merged cards a second way,
+# in their place. SEED and CARDS are those of the random tests. Exit status 0: all passed.
 
 set -u
 tests=$(cd "$(dirname "$0")/.." && pwd)
@@ -26,22 +26,25 @@ pages=${PAGES_ARCHIVE:-}
 
 reference="$built/release/libreference_c.a"
 if [ -n "${STAND_IN:-}" ]; then
-    unset GENERATOR_ARCHIVE PARSER_ARCHIVE LENGTHS_ARCHIVE PAGES_ARCHIVE
+    unset GENERATOR_ARCHIVE PARSER_ARCHIVE MERGE_ARCHIVE LENGTHS_ARCHIVE PAGES_ARCHIVE
     generator=$reference
     parser=
+    merge=$reference
     MAKETABLE="$built/release/maketable"
     PAGETABLE="$built/release/pagetable"
 else
     GENERATOR_ARCHIVE=$(realpath -m "${GENERATOR_ARCHIVE:-$root/target/staticlib/libgenerator_c.a}")
     PARSER_ARCHIVE=$(realpath -m "${PARSER_ARCHIVE:-$root/target/staticlib/libparser_c.a}")
-    for archive in "$GENERATOR_ARCHIVE" "$PARSER_ARCHIVE"; do
+    MERGE_ARCHIVE=$(realpath -m "${MERGE_ARCHIVE:-$root/target/staticlib/libmerge_c.a}")
+    for archive in "$GENERATOR_ARCHIVE" "$PARSER_ARCHIVE" "$MERGE_ARCHIVE"; do
         [ -f "$archive" ] || { echo "no archive $archive"; exit 2; }
     done
     LENGTHS_ARCHIVE=$(realpath -m "${lengths:-$root/target/lengths/target/staticlib/liblengths_c.a}")
     PAGES_ARCHIVE=$(realpath -m "${pages:-$root/target/pages_archive/target/staticlib/libpages_c.a}")
-    export GENERATOR_ARCHIVE PARSER_ARCHIVE LENGTHS_ARCHIVE PAGES_ARCHIVE
+    export GENERATOR_ARCHIVE PARSER_ARCHIVE MERGE_ARCHIVE LENGTHS_ARCHIVE PAGES_ARCHIVE
     generator=$GENERATOR_ARCHIVE
     parser=$PARSER_ARCHIVE
+    merge=$MERGE_ARCHIVE
     [ -n "${MAKETABLE:-}" ] || [ ! -x "$root/target/bin/maketable" ] || MAKETABLE="$root/target/bin/maketable"
     [ -n "${PAGETABLE:-}" ] || [ ! -x "$root/target/bin/pagetable" ] || PAGETABLE="$root/target/bin/pagetable"
 fi
@@ -65,19 +68,32 @@ program() {
     cc -O2 -Wall -Wextra -Werror -I"$root/bindings/c" -o "$built/$1" "$2" "$3" ${4:+"$4"} -lpthread -ldl -lm
 }
 
-# The archive exports the function and leans on nothing but the memory functions.
-symbols() {
-    nm -g --defined-only "$generator" | awk 'NF == 3 { print $3 }' | sort -u >"$built/defined"
-    grep -qx sidumza_generate "$built/defined" || { echo "no sidumza_generate"; return 1; }
-    nm -u "$generator" | awk 'NF == 2 { print $2 }' | sort -u | comm -23 - "$built/defined" >"$built/needed"
+# exports FUNCTION ARCHIVE: the archive exports the function and leans on nothing but the memory functions.
+exports() {
+    nm -g --defined-only "$2" | awk 'NF == 3 { print $3 }' | sort -u >"$built/defined"
+    grep -qx "$1" "$built/defined" || { echo "no $1"; return 1; }
+    nm -u "$2" | awk 'NF == 2 { print $2 }' | sort -u | comm -23 - "$built/defined" >"$built/needed"
     ! grep -vxE 'memset|memcpy|memmove' "$built/needed"
 }
 
-# The header by itself, as C and, where there is a compiler for it, as C++.
+symbols() {
+    exports sidumza_generate "$generator" && exports sidumza_merge "$merge"
+}
+
+# The tests of the Rust binding, with the archives in one folder.
+binding() {
+    mkdir -p "$built/archives" && cp "$generator" "$parser" "$merge" "$built/archives" || return 1
+    SIDUMZA_LIB="$built/archives" cargo test --offline --release --tests --features generator,merge \
+        --manifest-path "$root/bindings/rust/Cargo.toml"
+}
+
+# Each header by itself, as C and, where there is a compiler for it, as C++.
 header() {
-    cc -std=c99 -Wall -Wextra -Wpedantic -Werror -fsyntax-only -x c "$root/bindings/c/sidumza_generator.h" || return 1
-    ! command -v g++ >/dev/null ||
-        g++ -Wall -Wextra -Wpedantic -Werror -fsyntax-only -x c++ "$root/bindings/c/sidumza_generator.h"
+    for file in sidumza_generator.h sidumza_merge.h; do
+        cc -std=c99 -Wall -Wextra -Wpedantic -Werror -fsyntax-only -x c "$root/bindings/c/$file" || return 1
+        ! command -v g++ >/dev/null ||
+            g++ -Wall -Wextra -Wpedantic -Werror -fsyntax-only -x c++ "$root/bindings/c/$file" || return 1
+    done
 }
 
 # refused EDIT FILE PROGRAM..: the program, given the file with one number changed, must fail.
@@ -136,14 +152,18 @@ all() {
     [ -n "${STAND_IN:-}$pages" ] || step build-pages sh "$tests/generator/pages.sh"
     step build-random cargo build --offline --release --manifest-path "$tests/generator/Cargo.toml"
     [ -n "${STAND_IN:-}" ] || step symbols symbols
-    [ -n "${STAND_IN:-}" ] || step binding env SIDUMZA_LIB="$(dirname "$generator")" cargo test --offline --release \
-        --tests --features generator --manifest-path "$root/bindings/rust/Cargo.toml"
+    [ -n "${STAND_IN:-}" ] || step binding binding
     step header header
     step build-compare program compare "$tests/bison/compare.c" "$generator"
     step build-compare-reference program compare-reference "$tests/bison/compare.c" "$reference"
     step build-cases program cases "$tests/cases/cases.c" "$generator" "$parser"
     step build-stack program stack "$tests/cases/stack.c" "$generator"
     step build-cases-reference program cases-reference "$tests/cases/cases.c" "$reference"
+    step build-merge program merge "$tests/generator/merge.c" "$merge"
+    step build-merge-reference program merge-reference "$tests/generator/merge.c" "$reference"
+    step build-merge-example program merge-example "$root/examples/merge.c" "$merge"
+    [ -n "${STAND_IN:-}" ] || step build-merge-rust env SIDUMZA_LIB="$(dirname "$merge")" cargo build --offline --release \
+        --no-default-features --features merge --example merge --manifest-path "$root/bindings/rust/Cargo.toml"
     [ -z "$failed" ] || return
 
     step self-check "$built/release/generator-tests" self-check
@@ -152,6 +172,11 @@ all() {
     step sums "$built/release/generator-tests" sums
     step lengths "$built/release/generator-tests" lengths
     step pages "$built/release/generator-tests" pages
+    step merges "$built/release/generator-tests" merges
+    step merge-reference "$built/merge-reference"
+    step merge "$built/merge"
+    step merge-example sh "$root/examples/merge_test.sh" "$built/merge-example"
+    [ -n "${STAND_IN:-}" ] || step merge-rust sh "$root/examples/merge_test.sh" "$built/release/examples/merge"
     if command -v bison >/dev/null; then
         step bison python3 "$tests/bison/bison.py" check
     else

@@ -7,7 +7,7 @@ cd "$(dirname "$0")/../.."
 out=target/width
 rm -rf $out
 mkdir -p $out/crates $out/target
-needed="sets tables machine table_checks steps unlisted_steps exploration parser"
+needed="sets tables machine cell_checks entry_checks table_checks steps unlisted_steps exploration scans parser"
 for crate in $needed; do
     grep "^$crate:" crates.txt >>$out/crates.txt
     cp -r crates/$crate $out/crates/

@@ -1,7 +1,8 @@
 //! The table generator: makes the parse table of a grammar card, or refuses the card.
 //!
 //! It is the archive `libgenerator_c.a`. `bindings/c/sidumza_generator.h` describes card and areas. A call needs up to
-//! 640 KiB of stack; a thread of Rust has 2 MiB where nothing else is said.
+//! 640 KiB of stack; a thread of Rust has 2 MiB where nothing else is said. With the feature `merge` alone there are the
+//! refusals, and no calls.
 
 use std::fmt;
 
@@ -60,6 +61,20 @@ impl Refusal {
             Refusal::Conflict { .. } => 13,
         }
     }
+
+    /// The refusals of a card by its content, 4 to 10, from the number; 10 has the nonterminal.
+    pub(crate) fn of_card(number: u64, nonterminal: u64) -> Refusal {
+        match number {
+            4 => Refusal::CardShort,
+            5 => Refusal::CardSizes,
+            6 => Refusal::CardLength,
+            7 => Refusal::LeftSide,
+            8 => Refusal::Lengths,
+            9 => Refusal::Symbol,
+            10 => Refusal::Useless { nonterminal: nonterminal as u16 },
+            n => crate::unknown(n),
+        }
+    }
 }
 
 impl fmt::Display for Refusal {
@@ -89,6 +104,7 @@ impl fmt::Display for Refusal {
 
 impl std::error::Error for Refusal {}
 
+#[cfg(feature = "generator")]
 mod archive {
     extern "C" {
         pub fn sidumza_generate(
@@ -109,6 +125,7 @@ mod archive {
 ///
 /// `words` and `halves` are work areas of at least [`WORDS`] and [`HALVES`] places. Refusals 1 to 10 change no area;
 /// after all others, and after a table, both work areas are zero over these lengths.
+#[cfg(feature = "generator")]
 pub fn generate(card: &[u16], table: &mut [u16], words: &mut [u64], halves: &mut [u32]) -> Result<usize, Refusal> {
     let mut out = [0u64; 5];
     // SAFETY: each pointer comes with the length of its slice, `out` has the five places that are
@@ -135,21 +152,15 @@ pub fn generate(card: &[u16], table: &mut [u16], words: &mut [u64], halves: &mut
         1 => Refusal::TableAreaShort,
         2 => Refusal::WordsShort,
         3 => Refusal::HalvesShort,
-        4 => Refusal::CardShort,
-        5 => Refusal::CardSizes,
-        6 => Refusal::CardLength,
-        7 => Refusal::LeftSide,
-        8 => Refusal::Lengths,
-        9 => Refusal::Symbol,
-        10 => Refusal::Useless { nonterminal: value(1) },
         11 => Refusal::States,
         12 => Refusal::Transitions,
         13 => Refusal::Conflict { state: value(1), terminal: value(2), lower: value(3), higher: value(4) },
-        n => unreachable!("the archive answers {n}: it is not the one that this crate was written for"),
+        n => Refusal::of_card(n, out[1]),
     })
 }
 
 /// The table of a card, with areas of its own.
+#[cfg(feature = "generator")]
 pub fn table_of(card: &[u16]) -> Result<Vec<u16>, Refusal> {
     let mut table = vec![0; TABLE];
     let length = generate(card, &mut table, &mut vec![0; WORDS], &mut vec![0; HALVES])?;

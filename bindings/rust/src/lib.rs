@@ -6,10 +6,13 @@
 //!
 //! [`read_table`] reads a table from the text that `maketable` prints; [`entered`] gives the symbols under which its
 //! states are entered. With the feature `generator` the module `generator` makes tables; it needs the archive
-//! `libgenerator_c.a`. The feature `parser`, on where nothing else is said, is the parser.
+//! `libgenerator_c.a`. With the feature `merge` the module `merge` makes one card of two; it needs `libmerge_c.a`. The
+//! feature `parser`, on where nothing else is said, is the parser.
 
-#[cfg(feature = "generator")]
+#[cfg(any(feature = "generator", feature = "merge"))]
 pub mod generator;
+#[cfg(feature = "merge")]
+pub mod merge;
 mod table;
 mod words;
 
@@ -254,6 +257,13 @@ fn answer(out: [u64; 7]) -> Answer {
         34 => Answer::ListFull { counts },
         35 => Answer::BadGoto { counts },
         46 => Answer::ExpectedUnknown { position: out[4] as usize, counts },
-        n => unreachable!("the archive answers {n}: it is not the one that this crate was written for"),
+        n => unknown(n),
     }
+}
+
+/// The end of the program for an answer that the archives of this crate do not give.
+#[cfg(any(feature = "parser", feature = "generator", feature = "merge"))]
+#[track_caller]
+fn unknown(number: u64) -> ! {
+    unreachable!("the archive answers {number}: it is not the one that this crate was written for")
 }

@@ -3,7 +3,7 @@ use mathlib.Core.Bool.{Bool, true, false}
 use mathlib.Core.List.{List, [], _∷_}
 use mathlib.Core.Logic.{_⊎_, inl, inr, ⊎-elim, _↔_}
 use mathlib.Core.Path.{_≡_, refl, sym, ap, _∙_}
-use Prim.Native.Nat.{ℕ, suc, _+_, _*_, _≤_, _<_, zero-le}
+use Prim.Native.Nat.{ℕ, suc, _+_, _≤_, _<_, zero-le}
 use native.Mathlib.Nat.{add-zero, le-refl}
 use native.Mathlib.Omega.{arith}
 use lib.Dec.{eqb}
@@ -17,8 +17,7 @@ use Rattle.grammar.proofs.CardLaws.{WellFormed, start-mono, right-is, right-add
 use Rattle.grammar.specs.Card.{terminals, nonterminals, productions, leftOf, lengthOf, symbolOf, startOf, rightOf, grammarOf}
 use Rattle.items.specs.Item.{item}
 use Rattle.sets.proofs.HasLaws.{lt-or-ge}
-use Rattle.sets.proofs.ListLaws.{each-at}
-use Rattle.sets.specs.Lists.{each}
+use Rattle.sets.proofs.ListLaws.{ones-at}
 use Rattle.lr.proofs.Automaton.{CoreClosure, given, opened, CoreStart, core-start, CoreAdvanced, advanced, Goes as GoesOn, goes}
 use Rattle.closures.specs.Sets.{Reach, base, step, Closed, Advanced, Stays, Goes, Start}
 
@@ -58,9 +57,7 @@ module _ (c : List ℕ) (f : WellFormed c) where
   at-most r h = ⊎-elim inl (λ (l : productions c ≤ r). inr (omega arith)) (lt-or-ge r (productions c))
 
   right-at : (r d : ℕ) → r < productions c → d < lengthOf c r → getD (rightOf c r) d 0 ≡ symbolOf c (startOf c r + d)
-  right-at r d h l =
-      let n : d * 1 + 0 ≡ d = omega arith in
-      rw (right-is c r h) (ap (λ (i : ℕ). getD (each (lengthOf c r) (λ d. symbolOf c (startOf c r + d) ∷ [])) i 0) (sym n) ∙ each-at (lengthOf c r) 1 (λ d. symbolOf c (startOf c r + d) ∷ []) 0 (λ i k. refl) d 0 l (omega arith))
+  right-at r d h l = rw (right-is c r h) (ones-at (lengthOf c r) (λ d. symbolOf c (startOf c r + d)) d l)
 
   added-length : length (rightOf c (productions c)) ≡ 1
   added-length = ap length (right-added c)

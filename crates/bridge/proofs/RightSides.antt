@@ -1,13 +1,11 @@
 -- The right sides of a card, symbol by symbol.
-use Prim.Native.Nat.{ℕ, suc, _+_, _*_, _≤_, _<_}
-use mathlib.Core.Path.{_≡_, refl, sym, ap, _∙_}
+use Prim.Native.Nat.{ℕ, suc, _+_, _≤_, _<_}
+use mathlib.Core.Path.{_≡_, sym, ap, _∙_}
 use mathlib.Core.List.{List, [], _∷_}
 use lib.ListN.{length, getD, drop, length-drop}
-use lib.Seq.{getD-drop}
 use native.Mathlib.Omega.{arith}
-use native.Mathlib.Nat.{add-zero}
 use native.Mathlib.Decide.{ℕ-discrete}
-use Rattle.sets.proofs.ListLaws.{each-at}
+use Rattle.sets.proofs.ListLaws.{ones-at}
 use Rattle.grammar.specs.Card.{productions, lengthOf, symbolOf, startOf, rightOf}
 use Rattle.grammar.proofs.CardLaws.{right-is, right-length}
 use Rattle.lr.proofs.ItemLaws.{drop-next, first-at}
@@ -18,9 +16,7 @@ module _ (c : List ℕ) (r : ℕ) (h : r < productions c) where
   pub right-symbol : (d : ℕ) → d < lengthOf c r → getD (rightOf c r) d 0 ≡ symbolAt c r d
   unfolding symbolAt
   right-symbol d k =
-      let e : d * 1 + 0 ≡ d = omega arith in
-      ap (λ (l : List ℕ). getD l d 0) (right-is c r h)
-      ∙ rw e at (each-at (lengthOf c r) 1 (λ i. symbolOf c (startOf c r + i) ∷ []) 0 (λ i l. refl) d 0 k (omega arith))
+      ap (λ (l : List ℕ). getD l d 0) (right-is c r h) ∙ ones-at (lengthOf c r) (λ i. symbolOf c (startOf c r + i)) d k
 
   -- what stands behind a dot: nothing, or the dot's symbol
   pub dot-end : (d : ℕ) → drop d (rightOf c r) ≡ [] → lengthOf c r ≤ d

@@ -72,7 +72,7 @@ pub fn length(c: &[u16], r: u16) -> u16
 }
 
 // Where the symbols of all right sides begin.
-fn symbols_at(c: &[u16]) -> usize
+pub fn symbols_at(c: &[u16]) -> usize
     ensures { λ i. ⌜ (i ≡ symbolsAt (now (c .entry))) × (i < 2 ^ 18) ⌝ }
 {
     4 + 2 * wide(productions(c))

@@ -77,7 +77,7 @@ module _ (c : List ℕ) where
       go (no h) (yes i) = absurd (not-below m k l i)
       go (no h) (no i) = omega arith
 
-  same-numbers : {ns ms : List ℕ} → Checked c ns → Checked c ms → ns ≡ ms
+  pub same-numbers : {ns ms : List ℕ} → Checked c ns → Checked c ms → ns ≡ ms
   same-numbers (malformed h) (malformed i) = refl
   same-numbers (malformed h) (useless f n l) = absurd (h f)
   same-numbers (malformed h) (passed f u) = absurd (h f)

@@ -47,7 +47,7 @@ taken terminal-wrong = (omega arith, λ e. omega arith)
 taken no-stack = (omega arith, λ e. omega arith)
 taken second-short = (omega arith, λ e. omega arith)
 
-settled : {n : ℕ} → (n ≡ 0) ⊎ (n ≡ 31) → Settled n
+pub settled : {n : ℕ} → (n ≡ 0) ⊎ (n ≡ 31) → Settled n
 settled (inl e) = record { taken = λ h. omega (arith, taken h .0); steps-left = λ z. omega arith; stack-left = λ z. omega arith; list-left = λ z. omega arith }
 settled (inr e) = record { taken = λ h. taken h .1 e; steps-left = λ z. omega arith; stack-left = λ z. omega arith; list-left = λ z. omega arith }
 

@@ -1,18 +1,18 @@
 -- A card to which none of the refusals 4 to 9 applies is a grammar in form, within the limits.
-use mathlib.Core.Path.{_≡_, refl, sym, ap, _∙_}
+use mathlib.Core.Path.{_≡_, ap, _∙_}
 use mathlib.Core.Bool.{Bool, true, false}
 use mathlib.Core.List.{List, [], _∷_, _++_}
 use mathlib.Core.Logic.{_⊎_, ⊎-elim}
-use Prim.Native.Nat.{ℕ, zero, suc, _+_, _*_, _≤_, _<_}
+use Prim.Native.Nat.{ℕ, zero, suc, _+_, _≤_, _<_}
 use native.Mathlib.Omega.{arith}
 use native.Mathlib.Nat.{eq-or-lt-of-le, le-of-suc-le-suc, not-suc-le-zero}
-use lib.ListN.{length, getD}
+use lib.ListN.{length}
 use lib.Dec.{eqb, leb, ltb}
 use borrow.Author.Tests.{eqb-true, leb-true, ltb-true, lt-ltb, le-ltb}
 use Rattle.sets.specs.Tests.{between, unless}
 use Rattle.sets.specs.Lists.{each}
 use Rattle.sets.proofs.TestLaws.{and-both, all-at, between-at, passes}
-use Rattle.sets.proofs.ListLaws.{each-length, each-at}
+use Rattle.sets.proofs.ListLaws.{ones-length}
 use Rattle.grammar.specs.Grammar.{Formed, Symbols}
 use Rattle.grammar.specs.Card.{terminals, nonterminals, productions, symbols, leftOf, lengthOf, symbolsAt, symbolOf, startOf, rightOf, grammarOf, sizesOk, isNonterminal, isSymbol, leftsOk, rightsOk, formFault}
 
@@ -120,7 +120,7 @@ fault-most c =
 
 -- the table's second array holds the lengths of the right sides
 pub right-length : (c : List ℕ) (r : ℕ) → r < productions c → length (rightOf c r) ≡ lengthOf c r
-right-length c r h = ap length (right-is c r h) ∙ each-length (lengthOf c r) 1 (λ d. symbolOf c (startOf c r + d) ∷ []) (λ i k. refl) ∙ omega arith
+right-length c r h = ap length (right-is c r h) ∙ ones-length (lengthOf c r) (λ d. symbolOf c (startOf c r + d))
 
 symbols-each : (n m : ℕ) (f : ℕ → ℕ) → ((i : ℕ) → i < n → (0 < f i) × (f i < m)) → Symbols m (each n (λ i. f i ∷ []))
 symbols-each zero m f h = Symbols.none

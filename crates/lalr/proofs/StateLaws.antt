@@ -1,13 +1,11 @@
 -- The states that are found are the canonical LR(1) states merged by core, numbered as the paper says.
-use mathlib.Core.Path.{_≡_, refl, sym, ap, _∙_}
+use mathlib.Core.Path.{_≡_, refl, sym, _∙_}
 use mathlib.Core.Logic.{_↔_, _≢_, _⊎_, inl, inr}
 use mathlib.Core.List.{List, [], _∷_, _++_}
-use Prim.Native.Nat.{ℕ, zero, suc, _+_, _*_, _^_, _≤_, _<_}
+use Prim.Native.Nat.{ℕ, zero, suc, _+_, _^_, _≤_, _<_}
 use native.Mathlib.Omega.{arith}
-use native.Mathlib.Nat.{mul-one}
 use native.Mathlib.Decide.{ℕ-discrete, decLt}
 use lib.ListN.{length, getD, drop, List·getD-eq-default}
-use lib.Seq.{ext-getD}
 use Rattle.grammar.specs.Grammar.{Grammar, Formed, Symbols}
 use Rattle.lr.proofs.Canonical.{Canonical, in-core, by-path, start-viable}
 use Rattle.lr.specs.Items
@@ -16,28 +14,15 @@ use Rattle.lr.proofs.Automaton.{Automaton, CoreClosure, given, opened, CoreAdva
 use Rattle.lr.proofs.RelationLaws.{went, after-viable}
 use Rattle.lr.proofs.Automaton.{item-opened, closure-items}
 use Rattle.lr.proofs.Paths.{symbols-at, moved-item, items-behind, items-first}
-use Rattle.sets.specs.Lists.{each}
 use Rattle.lr.specs.States.{Taken, rowOf, States, MoreStates}
 use Rattle.lalr.specs.ComputedStates
-use Rattle.lalr.specs.ComputedStates.{first, total, goto, start, states, explore}
+use Rattle.lalr.specs.ComputedStates.{first, total, goto, start, states}
 use Rattle.sets.proofs.BitLaws.{bit-zero}
 use Rattle.lalr.proofs.Members.{All, none, some}
 use Rattle.lalr.proofs.Lists.{not-true}
-use Rattle.sets.proofs.ListLaws.{each-length, each-at}
+use Rattle.sets.proofs.ListLaws.{each-list}
 use Rattle.lalr.proofs.ItemLaws.{In, goto-exact, goto-small, start-exact, start-small, goto-goes, goes-goto, same-sets, closure-map}
-use Rattle.lalr.proofs.Explore.{Inv, Entry, no-move, move, Explored, explored, all-at, distinct-at, Distinct, none-twice, new-first, none-in, taken-same, explore-grows, grown-length}
-
--- a list by its places
-pub each-list : (n : ℕ) (l : List ℕ) → length l ≡ n → each n (λ x. getD l x 0 ∷ []) ≡ l
-each-list n l h = ext-getD 0 (each n (λ x. getD l x 0 ∷ [])) l (len ∙ sym h) (λ i k. at i (rw len at k))
-  where
-    len : length (each n (λ x. getD l x 0 ∷ [])) ≡ n
-    len = each-length n 1 (λ x. getD l x 0 ∷ []) (λ i k. refl) ∙ mul-one n
-
-    at : (i : ℕ) → i < n → getD (each n (λ x. getD l x 0 ∷ [])) i 0 ≡ getD l i 0
-    at i k =
-        let q : i * 1 + 0 ≡ i = omega arith in
-        ap (λ (j : ℕ). getD (each n (λ x. getD l x 0 ∷ [])) j 0) (sym q) ∙ each-at n 1 (λ x. getD l x 0 ∷ []) 0 (λ i k. refl) i 0 k (omega arith)
+use Rattle.lalr.proofs.Explore.{Inv, Entry, no-move, move, Explored, explored, all-at, distinct-at, Distinct, none-twice, new-first, none-in, taken-same}
 
 module _ (g : Grammar) (f : Formed g) (pr : AllProductive g) where
   -- the set s has the items of a path

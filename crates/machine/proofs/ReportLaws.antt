@@ -11,25 +11,28 @@ pub use Rattle.machine.specs.Report.{Report, refused, ended, wrong-at, u
 pub use Rattle.machine.specs.Faithful.{Stops, accepted-here, wrong-here, no-steps, list-full, broken-here, stack-full, Reports, counts, expects, unknown, Faithful}
 use Rattle.machine.proofs.LrMachineLaws.{Config, depth, listed, own-steps, path-last}
 
+place : {u v : List ℕ} (i : ℕ) → u ≡ v → getD u i 0 ≡ getD v i 0
+place i e = ap (λ (l : List ℕ). getD l i 0) e
+
 -- the numbers tell the report: they are 1, 4 or 7 in number, and the first is 31 or 46 where they are 7
 pub numbers-tell : (a b : Report) → numbersOf a ≡ numbersOf b → a ≡ b
-numbers-tell (refused n) (refused m) e = let z : n ≡ m = cc in ap refused z
-numbers-tell (ended n k d i) (ended n′ k′ d′ i′) e = let e₁ : n ≡ n′ = cc in let e₂ : k ≡ k′ = cc in let e₃ : d ≡ d′ = cc in let e₄ : i ≡ i′ = cc in rw (e₁, e₂, e₃, e₄)
+numbers-tell (refused n) (refused m) e = ap refused (place 0 e)
+numbers-tell (ended n k d i) (ended n′ k′ d′ i′) e = let e₁ : n ≡ n′ = place 0 e in let e₂ : k ≡ k′ = place 1 e in let e₃ : d ≡ d′ = place 2 e in let e₄ : i ≡ i′ = place 3 e in rw (e₁, e₂, e₃, e₄)
 numbers-tell (wrong-at k d i p s z) (wrong-at k′ d′ i′ p′ s′ z′) e =
-    let e₁ : k ≡ k′ = cc in let e₂ : d ≡ d′ = cc in let e₃ : i ≡ i′ = cc in let e₄ : p ≡ p′ = cc in let e₅ : s ≡ s′ = cc in let e₆ : z ≡ z′ = cc in rw (e₁, e₂, e₃, e₄, e₅, e₆)
-numbers-tell (unknown-at k d i p) (unknown-at k′ d′ i′ p′) e = let e₁ : k ≡ k′ = cc in let e₂ : d ≡ d′ = cc in let e₃ : i ≡ i′ = cc in let e₄ : p ≡ p′ = cc in rw (e₁, e₂, e₃, e₄)
-numbers-tell (refused _) (ended _ _ _ _) e = let z : _≡_ {A = ℕ} 0 1 = cc in absurd (omega arith)
-numbers-tell (refused _) (wrong-at _ _ _ _ _ _) e = let z : _≡_ {A = ℕ} 0 1 = cc in absurd (omega arith)
-numbers-tell (refused _) (unknown-at _ _ _ _) e = let z : _≡_ {A = ℕ} 0 1 = cc in absurd (omega arith)
-numbers-tell (ended _ _ _ _) (refused _) e = let z : _≡_ {A = ℕ} 0 1 = cc in absurd (omega arith)
-numbers-tell (ended _ _ _ _) (wrong-at _ _ _ _ _ _) e = let z : _≡_ {A = ℕ} 0 1 = cc in absurd (omega arith)
-numbers-tell (ended _ _ _ _) (unknown-at _ _ _ _) e = let z : _≡_ {A = ℕ} 0 1 = cc in absurd (omega arith)
-numbers-tell (wrong-at _ _ _ _ _ _) (refused _) e = let z : _≡_ {A = ℕ} 0 1 = cc in absurd (omega arith)
-numbers-tell (wrong-at _ _ _ _ _ _) (ended _ _ _ _) e = let z : _≡_ {A = ℕ} 0 1 = cc in absurd (omega arith)
-numbers-tell (wrong-at _ _ _ _ _ _) (unknown-at _ _ _ _) e = let z : _≡_ {A = ℕ} 31 46 = cc in absurd (omega arith)
-numbers-tell (unknown-at _ _ _ _) (refused _) e = let z : _≡_ {A = ℕ} 0 1 = cc in absurd (omega arith)
-numbers-tell (unknown-at _ _ _ _) (ended _ _ _ _) e = let z : _≡_ {A = ℕ} 0 1 = cc in absurd (omega arith)
-numbers-tell (unknown-at _ _ _ _) (wrong-at _ _ _ _ _ _) e = let z : _≡_ {A = ℕ} 46 31 = cc in absurd (omega arith)
+    let e₁ : k ≡ k′ = place 1 e in let e₂ : d ≡ d′ = place 2 e in let e₃ : i ≡ i′ = place 3 e in let e₄ : p ≡ p′ = place 4 e in let e₅ : s ≡ s′ = place 5 e in let e₆ : z ≡ z′ = place 6 e in rw (e₁, e₂, e₃, e₄, e₅, e₆)
+numbers-tell (unknown-at k d i p) (unknown-at k′ d′ i′ p′) e = let e₁ : k ≡ k′ = place 1 e in let e₂ : d ≡ d′ = place 2 e in let e₃ : i ≡ i′ = place 3 e in let e₄ : p ≡ p′ = place 4 e in rw (e₁, e₂, e₃, e₄)
+numbers-tell (refused _) (ended _ _ _ _) e = let z : _≡_ {A = ℕ} 1 4 = ap length e in absurd (omega arith)
+numbers-tell (refused _) (wrong-at _ _ _ _ _ _) e = let z : _≡_ {A = ℕ} 1 7 = ap length e in absurd (omega arith)
+numbers-tell (refused _) (unknown-at _ _ _ _) e = let z : _≡_ {A = ℕ} 1 7 = ap length e in absurd (omega arith)
+numbers-tell (ended _ _ _ _) (refused _) e = let z : _≡_ {A = ℕ} 4 1 = ap length e in absurd (omega arith)
+numbers-tell (ended _ _ _ _) (wrong-at _ _ _ _ _ _) e = let z : _≡_ {A = ℕ} 4 7 = ap length e in absurd (omega arith)
+numbers-tell (ended _ _ _ _) (unknown-at _ _ _ _) e = let z : _≡_ {A = ℕ} 4 7 = ap length e in absurd (omega arith)
+numbers-tell (wrong-at _ _ _ _ _ _) (refused _) e = let z : _≡_ {A = ℕ} 7 1 = ap length e in absurd (omega arith)
+numbers-tell (wrong-at _ _ _ _ _ _) (ended _ _ _ _) e = let z : _≡_ {A = ℕ} 7 4 = ap length e in absurd (omega arith)
+numbers-tell (wrong-at _ _ _ _ _ _) (unknown-at _ _ _ _) e = let z : _≡_ {A = ℕ} 31 46 = place 0 e in absurd (omega arith)
+numbers-tell (unknown-at _ _ _ _) (refused _) e = let z : _≡_ {A = ℕ} 7 1 = ap length e in absurd (omega arith)
+numbers-tell (unknown-at _ _ _ _) (ended _ _ _ _) e = let z : _≡_ {A = ℕ} 7 4 = ap length e in absurd (omega arith)
+numbers-tell (unknown-at _ _ _ _) (wrong-at _ _ _ _ _ _) e = let z : _≡_ {A = ℕ} 46 31 = place 0 e in absurd (omega arith)
 
 abbrev pub part : Report → ℕ → ℕ
 part r i = getD (numbersOf r) i 0

@@ -4,6 +4,3 @@ pub mod Running
 pub mod Whole
 pub mod Readings
 pub mod Listing
-pub mod Cleared
-pub mod Copied
-pub mod Searching

@@ -25,8 +25,9 @@ use Rattle.machine.proofs.Widths.{count-in, in-width}
 use Rattle.table_checks.specs.Verdict.{refusalNumber}
 use Rattle.table_checks.specs.declared.Refusal.{Refusal}
 use Rattle.table_checks.specs.declared.Refusal.the-variants.{TableShort, SizesWrong, ProductionWrong, CellWrong, EntryWrong, InputLong, TerminalWrong, NoStack, SecondShort, ClosedWrong}
+use Rattle.scans.specs.OpenFront.{OpenFront}
 use Rattle.parser.specs.Answer.{numbers, ReadsAs}
-use Rattle.parser.specs.Phases.{known, unknown, Answers, ends, stops, Ready, ReadsTo, OpenFront}
+use Rattle.parser.specs.Phases.{known, unknown, Answers, ends, stops, Ready, ReadsTo}
 use Rattle.parser.specs.declared.Answer.{Answer}
 use Rattle.parser.specs.declared.Answer.the-variants as answer
 

@@ -2,15 +2,13 @@
 use Prim.Native.Nat.{ℕ, _+_, _^_, _<_, _≤_}
 use mathlib.Core.Path.{_≡_}
 use mathlib.Core.Logic.{_≢_}
-use mathlib.Core.Bool.{Bool, true, _||_}
+use mathlib.Core.Bool.{Bool, true}
 use mathlib.Core.List.{List, [], _∷_, _++_}
-use lib.ListN.{length, getD, take, drop, replicate}
+use lib.ListN.{length, take, drop, replicate}
 use lib.Count.{ones}
-use lib.Dec.{ltb, leb}
-use Rattle.sets.specs.Bit.{Has}
 use Rattle.machine.specs.Report.{numbersOf}
 use Rattle.machine.specs.Checks.{closedOk}
-use Rattle.machine.specs.Restricted.{OpenLine, OpenOffer, OpenCutShort}
+use Rattle.machine.specs.Restricted.{OpenOffer, OpenCutShort}
 use Rattle.machine.specs.ComputedRun.{Machine, Outcome, start, expectedAt, unknownAt, endedAt}
 use Rattle.machine.specs.RunTo.{actionTo, runTo}
 use Rattle.machine.proofs.Checked.{Passed}
@@ -120,13 +118,3 @@ pub record ReadsTo (t line : List ℕ) (barred : Bool) (closed : ℕ) (st₀ li�
   pub stack : st ≡ runTo t line barred a (start st₀ li₀) .final .stack
   pub list : li ≡ runTo t line barred a (start st₀ li₀) .final .list
   pub second : se ≡ replicate (length se₀) 0
-
--- the terminals before place i are open, and it is that of the first closed one or the end of the input
-pub record OpenFront (closed : ℕ) (l : List ℕ) (i : ℕ) : Type 0 where
-  pub within : i ≤ length l
-  pub before : OpenLine closed (take i l)
-  pub there : i < length l → Has closed (getD l i 0)
-
--- the terminal at a place is below lo or at least hi
-abbrev pub outside : ℕ → ℕ → List ℕ → ℕ → Bool
-outside lo hi l i = ltb (getD l i 0) lo || leb hi (getD l i 0)

@@ -8,12 +8,10 @@ use table_checks::Verdict;
 use tables::Shape;
 use unlisted_steps::Spot;
 ghost use mathlib.Core.Path.{_≡_};
-ghost use mathlib.Core.Bool.{true, false};
+ghost use mathlib.Core.Bool.{true};
 ghost use mathlib.Core.List.{_∷_};
-ghost use Prim.Native.Nat.{ℕ, _+_, _^_, _<_, _≤_};
-ghost use lib.ListN.{length, getD, take, replicate};
-ghost use Rattle.sets.specs.Bit.{bit};
-ghost use Rattle.sets.specs.Tests.{allBelow};
+ghost use Prim.Native.Nat.{_+_, _^_, _<_, _≤_};
+ghost use lib.ListN.{length, replicate};
 ghost use Rattle.machine.specs.Checks.{inputOk, closedOk, restrictedRefusal};
 ghost use Rattle.machine.specs.ComputedRun.{Machine, Outcome, start, reading, restrictedReading};
 ghost use Rattle.machine.specs.RunTo.{runTo};
@@ -21,7 +19,7 @@ ghost use Rattle.machine.proofs.Checked.{Checked, Passed};
 ghost use Rattle.exploration.specs.Expected.{Explores};
 ghost use Rattle.steps.specs.State.{machineOf, stopNumber, Held};
 ghost use Rattle.parser.specs.Answer.{countsOf, numbers, ReadsAs};
-ghost use Rattle.parser.specs.Phases.{reached, acceptedAt, countBits, Countable, At, Says, Ends, Advances, startState, checkpointAt, noCheckpoint, ResumesIn, Resumes, Explorable, tells, AnswersAt, Answers, Ready, ReadsTo, OpenFront, outside};
+ghost use Rattle.parser.specs.Phases.{reached, acceptedAt, countBits, Countable, At, Says, Ends, Advances, startState, checkpointAt, noCheckpoint, ResumesIn, Resumes, Explorable, tells, AnswersAt, Answers, Ready, ReadsTo};
 ghost use Rattle.parser.specs.Terminals.{Lists};
 
 // The steps made, the stack places in use and the productions listed.
@@ -168,18 +166,6 @@ fn portion(left: u64, depth: usize) -> u64
     }
 }
 
-// The first n places of the stack, copied.
-fn copy(stack: &[u16], second: &mut [u16], n: usize)
-    requires { ⌜ (n ≤ length (now stack)) × (n ≤ length (now second)) ⌝ }
-    ensures { λ _. ⌜ take n (now (second .exit)) ≡ take n (now (stack .entry)) ⌝ }
-{
-    let mut i: usize = 0;
-    while i < n {
-        second[i] = stack[i];
-        i += 1;
-    }
-}
-
 // State 0 alone, before the first step.
 fn at_start() -> State
     ensures { λ r. ⌜ r ≡ startState ⌝ }
@@ -253,7 +239,7 @@ fn run(
                     let end = Ending::Final(Answer::StepLimit(count(t)));
                     return Course { end, checkpoint };
                 }
-                copy(stack, second, t.depth);
+                scans::copy(stack, second, t.depth);
                 checkpoint = checkpoint_at(t, left);
                 s = t;
             }
@@ -359,16 +345,6 @@ fn answered(
     }
 }
 
-fn clear(second: &mut [u16])
-    ensures { λ _. ⌜ now (second .exit) ≡ replicate (length (now (second .entry))) 0 ⌝ }
-{
-    let mut i: usize = 0;
-    while i < second.len() {
-        second[i] = 0;
-        i += 1;
-    }
-}
-
 // The same, and the second area is cleared.
 fn finish(
     table: &[u16],
@@ -382,7 +358,7 @@ fn finish(
     ensures { λ a. ⌜ ((o : Outcome) → Says o (r .end) → Answers (now (table .entry)) closed (now (line .entry)) «step_limit» (length (now (second .entry))) o a) × (now (second .exit) ≡ replicate (length (now (second .entry))) 0) ⌝ }
 {
     let a = answered(table, line, closed, second, step_limit, r);
-    clear(second);
+    scans::clear(second);
     a
 }
 
@@ -419,72 +395,6 @@ pub fn parse(
     parse_restricted(table, input, 0, stack, list, second, step_limit)
 }
 
-// Whether terminal b is closed. A terminal is less than 64, so that this is one test of a bit.
-fn is_closed(closed: u64, b: u8) -> bool
-    requires { ⌜ b < 64 ⌝ }
-    ensures { λ r. ⌜ r ≡ bit closed b ⌝ }
-{
-    (closed >> b) & 1 == 1
-}
-
-// The first closed terminal, from the beginning, or the input's length.
-fn search(input: &[u8], closed: u64) -> usize
-    requires { ⌜ ((i : ℕ) → getD (now input) i 0 < 64) ⌝ }
-    ensures { λ r. ⌜ OpenFront closed (now (input .entry)) r ⌝ }
-{
-    let mut i: usize = 0;
-    while i < input.len() {
-        if is_closed(closed, input[i]) {
-            return i;
-        }
-        i += 1;
-    }
-    i
-}
-
-// The lowest closed terminal; 64 where none is closed.
-fn lowest_closed(closed: u64) -> u8
-    ensures { λ r. ⌜ ((m : ℕ) → m < r → bit closed m ≡ false) ⌝ }
-{
-    sets::lowest(closed) as u8
-}
-
-// One more than the highest closed terminal; 0 where none is closed.
-fn past_closed(closed: u64) -> u8
-    ensures { λ r. ⌜ closed < 2 ^ r ⌝ }
-{
-    (64 - u64::leading_zeros(closed)) as u8
-}
-
-// Whether each terminal is below lo or at least hi. No test ends the loop, so many terminals are tested at a time.
-fn all_outside(input: &[u8], lo: u8, hi: u8) -> bool
-    ensures { λ r. ⌜ r ≡ allBelow (length (now (input .entry))) (outside lo hi (now (input .entry))) ⌝ }
-{
-    let mut ok = true;
-    let mut i: usize = 0;
-    while i < input.len() {
-        let b = input[i];
-        ok = table_checks::both(ok, table_checks::either(b < lo, hi <= b));
-        i += 1;
-    }
-    ok
-}
-
-// The place of the first closed terminal, or the input's length. Where no terminal lies between the lowest and the highest
-// closed one, that is found without a test of each.
-fn first_closed(input: &[u8], closed: u64) -> usize
-    requires { ⌜ ((i : ℕ) → getD (now input) i 0 < 64) ⌝ }
-    ensures { λ r. ⌜ OpenFront closed (now (input .entry)) r ⌝ }
-{
-    if closed == 0 {
-        return input.len();
-    }
-    if all_outside(input, lowest_closed(closed), past_closed(closed)) {
-        return input.len();
-    }
-    search(input, closed)
-}
-
 // The restricted reading, where nothing is refused: no step looks at the word of closed terminals.
 fn read_restricted(
     table: &[u16],
@@ -498,7 +408,7 @@ fn read_restricted(
     requires { ⌜ restrictedRefusal (now table) closed (now input) (length (now stack)) (length (now second)) ≡ 0 ⌝ }
     ensures { λ r. ⌜ ReadsAs (restrictedReading (now (table .entry)) closed (now (input .entry)) (now (stack .entry)) (now (list .entry)) (now (second .entry)) «step_limit») r (now (stack .exit)) (now (list .exit)) (now (second .exit)) ⌝ }
 {
-    let n = first_closed(input, closed);
+    let n = scans::first_closed(input, closed);
     let barred = n < input.len();
     read(
         table,

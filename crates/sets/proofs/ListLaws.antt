@@ -3,10 +3,10 @@ use mathlib.Core.Path.{_≡_, refl, sym, ap, _∙_}
 use mathlib.Core.List.{List, [], _∷_, _++_}
 use Prim.Native.Nat.{ℕ, zero, suc, _+_, _*_, _<_}
 use native.Mathlib.Omega.{arith}
-use native.Mathlib.Nat.{zero-mul}
+use native.Mathlib.Nat.{zero-mul, mul-one}
 use native.Mathlib.Decide.{ℕ-discrete}
 use lib.ListN.{length, getD, length-append, List·getD-append}
-use lib.Seq.{getD-append-add}
+use lib.Seq.{getD-append-add, ext-getD}
 use lib.Arith.{digits-lt}
 use Rattle.sets.specs.Lists.{each}
 
@@ -37,3 +37,17 @@ each-at (suc n) w f d h i j hi hj = go (ℕ-discrete i n) (λ k. each-at n w f d
 pub each-same : {A : Type 0} (n : ℕ) (f f′ : ℕ → List A) → ((i : ℕ) → i < n → f i ≡ f′ i) → each n f ≡ each n f′
 each-same zero f f′ h = refl
 each-same {A} (suc n) f f′ h = ap (λ (l : List A). l ++ f n) (each-same n f f′ (λ i k. h i (omega arith))) ∙ ap (λ (l : List A). each n f′ ++ l) (h n (omega arith))
+
+-- ---- one number at each place
+
+pub ones-length : (n : ℕ) (f : ℕ → ℕ) → length (each n (λ i. f i ∷ [])) ≡ n
+ones-length n f = each-length n 1 (λ i. f i ∷ []) (λ i h. refl) ∙ mul-one n
+
+pub ones-at : (n : ℕ) (f : ℕ → ℕ) (i : ℕ) → i < n → getD (each n (λ i. f i ∷ [])) i 0 ≡ f i
+ones-at n f i h = let e : i * 1 + 0 ≡ i = omega arith in ap (λ (j : ℕ). getD (each n (λ i. f i ∷ [])) j 0) (sym e) ∙ each-at n 1 (λ i. f i ∷ []) 0 (λ i h. refl) i 0 h (omega arith)
+
+-- a list by its places
+pub each-list : (n : ℕ) (l : List ℕ) → length l ≡ n → each n (λ i. getD l i 0 ∷ []) ≡ l
+each-list n l h =
+    let e = ones-length n (λ i. getD l i 0) in
+    ext-getD 0 (each n (λ i. getD l i 0 ∷ [])) l (e ∙ sym h) (λ i k. ones-at n (λ i. getD l i 0) i (rw e at k))

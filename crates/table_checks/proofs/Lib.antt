@@ -1,4 +1,2 @@
-pub mod RowLaws
-pub mod EntryLaws
 pub mod VerdictLaws
 pub mod ClosedLaws

@@ -9,12 +9,12 @@ use Rattle.sets.specs.Tests.{unless, firstRefusal}
 use Rattle.tables.specs.Layout.{sizeOf}
 use Rattle.tables.specs.declared.Shape.{Shape}
 use Rattle.machine.specs.Checks.{productionsOk, cellsOk, entriesOk, tableRefusal}
+use Rattle.cell_checks.specs.Rows.{Whole}
 use Rattle.table_checks.specs.declared.Refusal.{Refusal}
 use Rattle.table_checks.specs.declared.Refusal.the-variants.{TableShort, SizesWrong, ProductionWrong, CellWrong, EntryWrong, InputLong, TerminalWrong, NoStack, SecondShort, ClosedWrong}
 use Rattle.table_checks.specs.declared.Verdict.{Verdict}
 use Rattle.table_checks.specs.declared.Verdict.the-variants.{Passed, Refused}
 use Rattle.table_checks.specs.Verdict.{refusalNumber, verdictNumber}
-use Rattle.table_checks.specs.Rows.{Whole}
 
 four : {t : List ℕ} {z : Shape} → Whole t z → 4 ≤ length t
 unfolding sizeOf

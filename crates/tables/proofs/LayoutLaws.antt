@@ -6,11 +6,11 @@ use lib.ListN.{length, getD, length-append, List·getD-append, List·getD-eq-def
 use lib.Seq.{ext-getD, getD-append-add}
 use lib.Arith.{digits-lt}
 use native.Mathlib.Omega.{arith}
-use native.Mathlib.Nat.{mod-lt, div-lt-iff-lt-mul, div-add-mod', mul-one}
+use native.Mathlib.Nat.{mod-lt, div-lt-iff-lt-mul, div-add-mod'}
 use native.Mathlib.Decide.{decLt}
 use Rattle.tables.specs.Layout.{states, terminals, nonterminals, productions, width, leftAt, lengthAt, headerSize, enteredAt, cellsAt, rowAt, leftOf, lengthOf, enteredOf, cellOf, sizeOf, build}
 use Rattle.sets.specs.Lists.{each}
-use Rattle.sets.proofs.ListLaws.{each-length, each-at}
+use Rattle.sets.proofs.ListLaws.{each-length, each-at, ones-length, ones-at}
 
 module _ (p w n : ℕ) (wide : 0 < w) (Q : ℕ → Type 0) (sizes : (i : ℕ) → i < 4 → Q i) (lefts : (r : ℕ) → r < p → Q (leftAt r)) (lengths : (r : ℕ) → r < p → Q (lengthAt p r))
     (entries : (q : ℕ) → q < n → Q (enteredAt p q)) (cells : (q x : ℕ) → q < n → x < w → Q (rowAt p n w q + x)) where
@@ -92,12 +92,6 @@ module _ (q t n p : ℕ) (left length′ entered : ℕ → ℕ) (cell : ℕ → 
   pub built-sizes : (states built ≡ q) × (terminals built ≡ t) × (nonterminals built ≡ n) × (productions built ≡ p)
   unfolding build states terminals nonterminals productions
   built-sizes = (refl, refl, refl, refl)
-
-  ones-length : (k : ℕ) (f : ℕ → ℕ) → length (each k (λ i. f i ∷ [])) ≡ k
-  ones-length k f = each-length k 1 (λ i. f i ∷ []) (λ i h. refl) ∙ mul-one k
-
-  ones-at : (k : ℕ) (f : ℕ → ℕ) (i : ℕ) → i < k → getD (each k (λ i. f i ∷ [])) i 0 ≡ f i
-  ones-at k f i h = let e : i * 1 + 0 ≡ i = omega arith in ap (λ (j : ℕ). getD (each k (λ i. f i ∷ [])) j 0) (sym e) ∙ each-at k 1 (λ i. f i ∷ []) 0 (λ i h. refl) i 0 h (omega arith)
 
   skip4 : (a b d e : ℕ) (l : List ℕ) (k : ℕ) → getD (a ∷ b ∷ d ∷ e ∷ l) (4 + k) 0 ≡ getD l k 0
   skip4 a b d e l k = let z : 4 + k ≡ suc (suc (suc (suc k))) = omega arith in rw z

@@ -1,10 +1,13 @@
 //! The C functions under test. Where an archive is not linked, the reference's
-//! second way, its parser, lengths by rounds and pages by lines stand in.
+//! second way, its parser, lengths by rounds, pages by lines and cards merged by arithmetic
+//! stand in.
 
 use reference::parser;
 
 #[cfg(not(lengths_archive))]
 use crate::lengths::faults;
+#[cfg(not(merge_archive))]
+use crate::merges::faults as by_arithmetic;
 #[cfg(not(pages_archive))]
 use crate::pages::faults as lines;
 
@@ -27,6 +30,11 @@ pub const LENGTHS: &str = "stand-in";
 pub const PAGES: &str = "archive";
 #[cfg(not(pages_archive))]
 pub const PAGES: &str = "stand-in";
+
+#[cfg(merge_archive)]
+pub const MERGE: &str = "archive";
+#[cfg(not(merge_archive))]
+pub const MERGE: &str = "stand-in";
 
 #[cfg(generator_archive)]
 extern "C" {
@@ -111,6 +119,19 @@ extern "C" {
     fn sidumza_pages(table: *const u16, table_len: usize, out: *mut u8, out_len: usize) -> usize;
 }
 
+#[cfg(merge_archive)]
+extern "C" {
+    fn sidumza_merge(
+        first: *const u16,
+        first_len: usize,
+        second: *const u16,
+        second_len: usize,
+        merged: *mut u16,
+        merged_len: usize,
+        out: *mut u64,
+    );
+}
+
 /// Makes a table: card, table area, both work areas.
 pub type Generator = dyn Fn(&[u16], &mut [u16], &mut [u64], &mut [u32]) -> [u64; 5];
 
@@ -125,6 +146,9 @@ pub type Shortest = dyn Fn(&[u16], &mut [u16; 60]) -> u16;
 
 /// Writes the pages of a table into a buffer; gives how many bytes are used.
 pub type Pages = dyn Fn(&[u16], &mut [u8]) -> usize;
+
+/// Merges two cards in an area: first, second, area; what is answered goes into the last.
+pub type Merge = dyn Fn(&[u16], &[u16], &mut [u16], &mut [u64; 3]);
 
 /// Both calls of a parser: the publisher's and the choir's.
 #[derive(Clone, Copy)]
@@ -244,4 +268,24 @@ pub fn pages(table: &[u16], out: &mut [u8]) -> usize {
 #[cfg(not(pages_archive))]
 pub fn pages(table: &[u16], out: &mut [u8]) -> usize {
     lines::pages(table, out, lines::Fault::None)
+}
+
+#[cfg(merge_archive)]
+pub fn merge(first: &[u16], second: &[u16], merged: &mut [u16], out: &mut [u64; 3]) {
+    unsafe {
+        sidumza_merge(
+            first.as_ptr(),
+            first.len(),
+            second.as_ptr(),
+            second.len(),
+            merged.as_mut_ptr(),
+            merged.len(),
+            out.as_mut_ptr(),
+        );
+    }
+}
+
+#[cfg(not(merge_archive))]
+pub fn merge(first: &[u16], second: &[u16], merged: &mut [u16], out: &mut [u64; 3]) {
+    by_arithmetic::merge(first, second, merged, out, by_arithmetic::Fault::None)
 }

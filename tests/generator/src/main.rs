@@ -8,6 +8,8 @@
 //!     generator-tests lengths           compares shortest lengths with the reference
 //!     generator-tests pages             compares tables on pages with the reference
 //!     generator-tests pages-behind WHAT dies: its pages touch what is behind an area
+//!     generator-tests merges            compares merged cards with the reference
+//!     generator-tests merge-behind WHAT dies: its merging touches what is behind an area
 //!     generator-tests measure FILE..    prints sizes and times of stored cards
 //!     generator-tests climb WHAT FILE.. looks for cards with more WHAT: time, reads,
 //!                                       includes or edges
@@ -25,6 +27,7 @@ mod guarded;
 mod lengths;
 mod lookaheads;
 mod measure;
+mod merges;
 mod offers;
 mod pages;
 mod parsers;
@@ -276,6 +279,8 @@ fn main() -> ExitCode {
         ["lengths"] => lengths::lengths(seed, cards),
         ["pages"] => pages::pages(seed, setting("CARDS", 10_000)),
         ["pages-behind", what] => pages::behind(what),
+        ["merges"] => merges::merges(seed, cards),
+        ["merge-behind", what] => merges::behind(what),
         ["measure", _, ..] => measure::measure_files(&arguments[1..]),
         ["climb", what, _, ..] => {
             let mut random = Random::new(seed);
@@ -284,7 +289,7 @@ fn main() -> ExitCode {
         _ => {
             println!(
                 "random, self-check, reads-behind, sums, lengths, pages, pages-behind WHAT, \
-                 measure FILE.. or climb WHAT FILE.."
+                 merges, merge-behind WHAT, measure FILE.. or climb WHAT FILE.."
             );
             false
         }

@@ -3,8 +3,8 @@
 //! (LR(0) sets with lookaheads spread to a fixed point). No relations of
 //! nonterminal transitions are used here: the generator works with those.
 //!
-//! The membership tests (`earley`, `spans`) know nothing of LR, and `pages` nothing
-//! of how a table is made.
+//! The membership tests (`earley`, `spans`) know nothing of LR, `pages` nothing of how a
+//! table is made, and `merge` nothing of tables.
 
 #![allow(clippy::needless_range_loop, clippy::collapsible_match)]
 
@@ -18,6 +18,7 @@ mod hash;
 pub mod items;
 pub mod lr0;
 pub mod lr1;
+pub mod merge;
 pub mod pages;
 pub mod parser;
 pub mod program;

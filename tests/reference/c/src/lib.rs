@@ -92,6 +92,26 @@ pub unsafe extern "C" fn sidumza_parse_restricted(
     from_raw_parts_mut(out, 7).copy_from_slice(&outcome.out());
 }
 
+/// # Safety
+/// As for `sidumza_generate`.
+#[no_mangle]
+pub unsafe extern "C" fn sidumza_merge(
+    first: *const u16,
+    first_len: usize,
+    second: *const u16,
+    second_len: usize,
+    merged: *mut u16,
+    merged_len: usize,
+    out: *mut u64,
+) {
+    let numbers = reference::merge::call(
+        slice(first, first_len),
+        slice(second, second_len),
+        slice_mut(merged, merged_len),
+    );
+    from_raw_parts_mut(out, 3).copy_from_slice(&numbers);
+}
+
 #[no_mangle]
 pub extern "C" fn sidumza_lowest(expected: u64) -> u32 {
     (0..64).find(|m| expected >> m & 1 == 1).unwrap_or(64)

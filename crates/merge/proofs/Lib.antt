@@ -1,0 +1,3 @@
+pub mod AnswerLaws
+pub mod OneMerge
+pub mod Example

@@ -1,0 +1,9 @@
+pub mod ArrayLaws
+pub mod MergedLaws
+pub mod FormLaws
+pub mod Embedding
+pub mod JoinedLaws
+pub mod WritingLaws
+pub mod PartLaws
+pub mod SizeLaws
+pub mod WholeLaws
