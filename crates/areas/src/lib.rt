@@ -1,4 +1,6 @@
 // The areas that the maker is lent: their lengths, and where its rows stand.
+#![tactic(auto)]
+
 ghost use Rattle.std.specs.Prelude.{◌≡◌, ◌≤◌};
 ghost use Rattle.areas.specs.Areas.{table_size, row_of};
 

@@ -1,4 +1,6 @@
 // The grammar card: its numbers, each with an answer for every slice, and the first refusal of its form.
+#![tactic(auto)]
+
 ghost use Rattle.std.specs.Prelude.{◌≡◌, ◌+◌, ◌<◌, ◌≤◌, ◌^◌, min, eqb, length, get_or};
 ghost use Rattle.sets.specs.Bit.{Tells};
 ghost use Rattle.sets.specs.Tests.{between as between_of};

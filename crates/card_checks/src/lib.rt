@@ -1,4 +1,6 @@
 // The checks of a card, 4 to 10, in the paper's order.
+#![tactic(auto)]
+
 ghost use Rattle.std.specs.Prelude.{◌≡◌, [], ◌∷◌, ◌≤◌};
 ghost use Rattle.sets.specs.Lists.{covered};
 ghost use Rattle.card_checks.specs.Checked.{refusal_numbers, verdict_numbers, Checked};

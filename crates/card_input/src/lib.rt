@@ -1,5 +1,7 @@
 // Standard input as a card, and standard output, for programs that print what is made of a card.
 // What fails is told on standard error, behind the program's name.
+#![tactic(auto)]
+
 ghost use Rattle.std.specs.Prelude.{◌≡◌, List, ◌++◌, ℕ, length};
 ghost use Rattle.decimal.specs.Page.{page_of, page, Used};
 ghost use Rattle.decimal.specs.Scanning.{fed_of, fed};

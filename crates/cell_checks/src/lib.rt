@@ -1,4 +1,6 @@
 // The reader's checks of the sizes, the productions and the cells of a table: 22, 23 and 24.
+#![tactic(auto)]
+
 ghost use Rattle.std.specs.Prelude.{◌≡◌, ◌&&◌, ◌||◌, ◌+◌, ◌<◌, ◌≤◌, length, get_or, ltb};
 ghost use Rattle.sets.specs.Tests.{all_below, between as between_of};
 ghost use Rattle.tables.specs.Layout.{states, productions, length_at};

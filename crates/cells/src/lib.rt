@@ -1,4 +1,6 @@
 // The cells of one state from its words, what stands in front of a table's rows (header, entering symbols), and the zeroing of areas.
+#![tactic(auto)]
+
 ghost use Rattle.std.specs.Prelude.{◌≡◌, true, ◌↔◌, ◌≢◌, ℕ, ◌+◌, ◌*◌, ◌<◌, ◌≤◌, length, take};
 ghost use Rattle.sets.specs.Bit.{bit};
 ghost use Rattle.grammar.specs.Card.{terminals as terminals_of, productions as productions_of};

@@ -1,6 +1,8 @@
 // Closures of item sets, and what they are made with.
 // z holds item sets in slots: slot q < 256 is for state q, slot CLOSURES + j holds the closure of the first items of nonterminal T + j,
 // slot MASKS + x the items that stand before symbol x. w holds the symbol after the dot of each item, 0 where there is none.
+#![tactic(auto)]
+
 ghost use Rattle.std.specs.Prelude.{◌≡◌, suc, ◌*◌, ◌≤◌, ◌<◌, length};
 ghost use Rattle.grammar.specs.Card.{nonterminals, productions, length_of, start_of, form_fault};
 ghost use Rattle.areas.specs.Areas.{words_size};

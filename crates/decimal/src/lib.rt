@@ -1,4 +1,6 @@
 // Decimal numbers: a scanner that is fed an input in chunks, and the writing of numbers and words.
+#![tactic(auto)]
+
 mod scanner;
 mod writer;
 

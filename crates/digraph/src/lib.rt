@@ -2,6 +2,8 @@
 // a cycle come to share one set. It knows nodes 0 to k - 1 and the edges that crate relations gives, not what they mean.
 // In the area z: the set of node v at v, its number at NUMBERS_AT + v, position p of the stack at STACK_AT + p.
 // Each node is entered once, and each edge that the relation gives is followed once.
+#![tactic(auto)]
+
 ghost use Rattle.std.specs.Prelude.{◌≡◌, ℕ, ◌+◌, ◌<◌, ◌≤◌, min, length, set};
 ghost use Rattle.std.specs.Int.Bits.{bit_or};
 ghost use Rattle.areas.specs.Areas.{words_size};

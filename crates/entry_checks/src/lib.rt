@@ -1,4 +1,6 @@
 // The reader's check of the entries of a table's states: 44.
+#![tactic(auto)]
+
 ghost use Rattle.std.specs.Prelude.{◌≡◌, ◌+◌, ◌<◌, ◌≤◌, length, get_or};
 ghost use Rattle.sets.specs.Tests.{all_below};
 ghost use Rattle.tables.specs.Layout.{states};

@@ -1,4 +1,6 @@
 // Which terminals can follow a line: the fresh readings of all open terminals, made together.
+#![tactic(auto)]
+
 ghost use Rattle.std.specs.Prelude.{◌≡◌, true, List, ◌↔◌, ℕ, ◌+◌, ◌*◌, ◌<◌, ◌≤◌, length, get_or, drop};
 ghost use Rattle.sets.specs.Bit.{Has, Tells};
 ghost use Rattle.tables.specs.Layout.{terminals};

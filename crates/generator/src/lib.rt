@@ -1,4 +1,6 @@
 // Makes the parse table of a grammar card, or refuses it.
+#![tactic(auto)]
+
 ghost use Rattle.std.specs.Prelude.{◌≡◌, [], ◌≤◌, ◌<◌, length};
 ghost use Rattle.sets.specs.Lists.{covered};
 ghost use Rattle.grammar.specs.Card.{form_fault, grammar_of};

@@ -1,4 +1,6 @@
 // The maker for C and Rust: slices as a pointer and a length, and the answer as five numbers.
+#![tactic(auto)]
+
 ghost use Rattle.std.specs.Prelude.{◌≡◌, []};
 ghost use Rattle.sets.specs.Lists.{covered};
 ghost use Rattle.lalr.specs.ComputedGenerator.{generated};

@@ -1,4 +1,6 @@
 // Item sets: an array of 11 words by value, bit i for item i.
+#![tactic(auto)]
+
 ghost use Rattle.std.specs.Prelude.{◌≡◌, ◌+◌, ◌≤◌, ◌<◌, length, take, drop};
 ghost use Rattle.std.proofs.Math.Seq.{paste};
 ghost use Rattle.items.specs.Item.{set_size, item_limit, Put, Empty, Next, Union, Same, Shifted};

@@ -1,1 +1,2 @@
 // Definitions and proofs only.
+#![tactic(auto)]

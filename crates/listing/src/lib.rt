@@ -1,4 +1,6 @@
 // The text of a table, of a refusal, and `not a card`.
+#![tactic(auto)]
+
 ghost use Rattle.std.specs.Prelude.{◌≡◌, ◌-◌, ◌<◌, get_or};
 ghost use Rattle.decimal.specs.Page.{page_of, page, wrote, Used};
 ghost use Rattle.tables.specs.Layout.{states, width};

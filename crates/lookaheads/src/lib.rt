@@ -1,4 +1,6 @@
 // The lookaheads of each state, and the table: cells, entering symbols, zeros.
+#![tactic(auto)]
+
 ghost use Rattle.std.specs.Prelude.{◌≡◌, List, ℕ, ◌+◌, ◌<◌, ◌≤◌, ◌^◌, length, get_or};
 ghost use Rattle.items.specs.Item.{item};
 ghost use Rattle.grammar.specs.Card.{terminals, productions, length_of, start_of, form_fault};

@@ -1,4 +1,6 @@
 // Two cards are checked, and merged into one.
+#![tactic(auto)]
+
 ghost use Rattle.std.specs.Prelude.{◌≡◌, []};
 ghost use Rattle.sets.specs.Lists.{covered};
 ghost use Rattle.card_checks.specs.Checked.{refusal_numbers};

@@ -1,4 +1,6 @@
 // Merging of cards for C and Rust: slices as a pointer and a length, and the answer as three numbers.
+#![tactic(auto)]
+
 ghost use Rattle.std.specs.Prelude.{◌≡◌, []};
 ghost use Rattle.sets.specs.Lists.{covered};
 ghost use Rattle.merge.specs.Answer.{answer_numbers};

@@ -1,5 +1,7 @@
 // The card that two cards are merged into: a new start, the nonterminals of the first, those of the second; two productions from the new
 // start to the old starts, then the productions of both.
+#![tactic(auto)]
+
 ghost use Rattle.std.specs.Prelude.{◌≡◌, [], ◌∷◌, ◌++◌, ◌+◌, ◌<◌, ◌≤◌, length, drop};
 ghost use Rattle.sets.specs.Lists.{each};
 ghost use Rattle.grammar.specs.Card.{nonterminals as nonterminals_of, sizes_ok, form_fault};

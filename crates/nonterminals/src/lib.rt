@@ -1,5 +1,7 @@
 // The shortest lengths of a card's nonterminals; the productive and the reachable ones, each set one
 // number with bit j for nonterminal T + j; and refusal 10.
+#![tactic(auto)]
+
 ghost use Rattle.std.specs.Prelude.{◌≡◌, true, List, ℕ, ◌+◌, ◌≤◌, ◌<◌, get_or};
 ghost use Rattle.grammar.specs.Card.{terminals, nonterminals, productions, symbols, left_of, right_of, symbol_of, start_of, grammar_of, form_fault};
 ghost use Rattle.grammar.specs.Useful.{Productive, Reachable, LowestUseless};

@@ -1,4 +1,6 @@
 // What the relations need of the card: the starts of the right sides, and the occurrences of nonterminals with only nullable symbols behind them.
+#![tactic(auto)]
+
 ghost use Rattle.std.specs.Prelude.{◌≡◌, ◌<◌, ◌≤◌, length};
 ghost use Rattle.grammar.specs.Card.{productions, length_of, start_of, form_fault};
 ghost use Rattle.areas.specs.Areas.{halves_size};

@@ -1,4 +1,6 @@
 // A table on pages: 60 lines of 72 columns, each with a line feed behind it.
+#![tactic(auto)]
+
 ghost use Rattle.std.specs.Prelude.{◌≡◌, [], ◌∷◌, ◌++◌, ◌+◌, ◌-◌, ◌*◌, ◌^◌, ◌<◌, ◌≤◌, length};
 ghost use Rattle.sets.specs.Lists.{each};
 ghost use Rattle.tables.specs.Layout.{states, width};

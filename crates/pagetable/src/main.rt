@@ -1,4 +1,6 @@
 // Reads a card from standard input and prints its table on pages, the line of its refusal, or `not a card`.
+#![tactic(auto)]
+
 ghost use Rattle.std.specs.Prelude.{List, ℕ};
 ghost use Rattle.card_input.specs.Reading.{Came};
 ghost use Rattle.response.specs.Printed.{Answers};

@@ -1,4 +1,6 @@
 // Runs a parse table over an input.
+#![tactic(auto)]
+
 ghost use Rattle.std.specs.Prelude.{◌≡◌, true, ◌∷◌, ◌+◌, ◌^◌, ◌<◌, ◌≤◌, length, replicate};
 ghost use Rattle.machine.specs.Checks.{input_ok, closed_ok, restricted_refusal};
 ghost use Rattle.machine.specs.ComputedRun.{Machine, Outcome, start, reading, restricted_reading};

@@ -1,4 +1,6 @@
 // The reader for C and Rust: slices as a pointer and a length, and the answer as seven numbers.
+#![tactic(auto)]
+
 ghost use Rattle.std.specs.Prelude.{◌≡◌, ◌∷◌, []};
 ghost use Rattle.sets.specs.Bit.{Lowest};
 ghost use Rattle.machine.specs.ComputedRun.{reading, restricted_reading};

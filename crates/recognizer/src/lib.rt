@@ -1,4 +1,6 @@
 // Makes the table of a card and reads an input with it.
+#![tactic(auto)]
+
 ghost use Rattle.recognizer.specs.Outcome.{Recognizes, RecognizesRestricted};
 
 // The maker's answer where it made no table, or the reader's with the table made.

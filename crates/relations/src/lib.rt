@@ -1,4 +1,6 @@
 // The relations reads and includes between nonterminal transitions, edge by edge.
+#![tactic(auto)]
+
 ghost use Rattle.std.specs.Prelude.{true, false, List, ℕ, ◌<◌, ◌≤◌};
 ghost use Rattle.sets.specs.Bit.{Tells};
 ghost use Rattle.grammar.specs.Card.{productions, length_of};

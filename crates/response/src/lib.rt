@@ -1,4 +1,6 @@
 // What is printed of a card: its table, in one of two forms, or the line of its refusal.
+#![tactic(auto)]
+
 ghost use Rattle.std.specs.Prelude.{◌≡◌, List, ℕ, ◌≤◌, length, get_or, take};
 ghost use Rattle.card_input.specs.Reading.{Came};
 ghost use Rattle.decimal.specs.Page.{page_of, page, Used};

@@ -1,4 +1,6 @@
 // A sample for a production: a shortest sentence that has a derivation which uses it.
+#![tactic(auto)]
+
 ghost use Rattle.std.specs.Prelude.{◌≡◌, Bool, [], ◌++◌, ◌≤◌, ◌<◌, length, drop};
 ghost use Rattle.sets.specs.Lists.{covered};
 ghost use Rattle.grammar.specs.Card.{productions, start_of, form_fault};

@@ -1,5 +1,7 @@
 // For each nonterminal of a card its shortest known string of terminals, and the shortest known one by a derivation that
 // uses a named production.
+#![tactic(auto)]
+
 ghost use Rattle.std.specs.Prelude.{◌≡◌, true, List, [], ◌++◌, ℕ, ◌+◌, ◌≤◌, ◌<◌, eqb, length, take, get_or, set};
 ghost use Rattle.sets.specs.Lists.{covered};
 ghost use Rattle.grammar.specs.Card.{terminals, nonterminals, productions, length_of, start_of, symbol_of, form_fault};

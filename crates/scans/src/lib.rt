@@ -1,4 +1,6 @@
 // The reader's loops over the input and over the second stack area; the steps are not among them.
+#![tactic(auto)]
+
 ghost use Rattle.std.specs.Prelude.{◌≡◌, false, ℕ, ◌^◌, ◌<◌, ◌≤◌, length, get_or, take, replicate};
 ghost use Rattle.sets.specs.Bit.{bit};
 ghost use Rattle.sets.specs.Tests.{all_below};

@@ -1,4 +1,6 @@
 // Sets of states: four words by value, state p at bit p % 64 of word p / 64.
+#![tactic(auto)]
+
 ghost use Rattle.std.specs.Prelude.{◌≡◌, false, not, ◌&&◌, ◌||◌, ℕ, ◌+◌, ◌*◌, ◌<◌, eqb};
 ghost use Rattle.items.specs.Item.{item};
 ghost use Rattle.state_sets.specs.Words.{Lowest};

@@ -1,5 +1,7 @@
 // The states of a card by number, with their transitions, and refusal 11.
 // The slots of z, and w, are those of crate closures: slot q < 256 is state q.
+#![tactic(auto)]
+
 ghost use Rattle.std.specs.Prelude.{◌≡◌, cond, true, ℕ, ◌+◌, ◌*◌, ◌≤◌, ◌<◌, ◌^◌, eqb, length, get_or};
 ghost use Rattle.grammar.specs.Card.{terminals, nonterminals, form_fault};
 ghost use Rattle.areas.specs.Areas.{table_size, words_size};

@@ -1,4 +1,6 @@
 // One step of the reader's machine, over a table and an input that were checked.
+#![tactic(auto)]
+
 ghost use Rattle.std.specs.Prelude.{◌≡◌, List, cond, not, ◌&&◌, ℕ, ◌+◌, ◌*◌, ◌-◌, ◌<◌, ◌≤◌, ◌^◌, get_or, length, ltb};
 ghost use Rattle.tables.specs.Layout.{productions, left_of, length_of, cell_of};
 ghost use Rattle.machine.specs.ComputedRun.{popped, shifted, reduced_to, reduced, moved_by};

@@ -1,4 +1,6 @@
 // What the reader refuses: the table, the input, the stack areas and the word of closed terminals.
+#![tactic(auto)]
+
 ghost use Rattle.std.specs.Prelude.{◌≡◌, List, ℕ};
 ghost use Rattle.sets.specs.Tests.{unless, first_refusal};
 ghost use Rattle.tables.specs.Layout.{terminals};

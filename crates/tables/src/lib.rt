@@ -1,4 +1,6 @@
 // The places of a parse table.
+#![tactic(auto)]
+
 ghost use Rattle.std.specs.Prelude.{◌≡◌, ◌+◌, ◌*◌, ◌<◌, ◌≤◌, ◌^◌, length, get_or, drop};
 ghost use Rattle.tables.specs.Layout.{productions, left_at, length_at, header_size, entered_at, cells_at, left_of, length_of, entered_of, size_of};
 ghost use Rattle.tables.specs.Shape.{Shaped};

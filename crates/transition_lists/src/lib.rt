@@ -1,4 +1,6 @@
 // The nonterminal transitions of the table area, what the relations between them are read from, and their direct reads.
+#![tactic(auto)]
+
 ghost use Rattle.std.specs.Prelude.{◌≡◌, List, ℕ, ◌+◌, ◌<◌, ◌≤◌, length};
 ghost use Rattle.grammar.specs.Card.{terminals, nonterminals, form_fault};
 ghost use Rattle.areas.specs.Areas.{words_size, halves_size, row_of};

@@ -1,4 +1,6 @@
 // The nonterminal transitions of a table area and what the relations between them are read from, in the 32-bit work area.
+#![tactic(auto)]
+
 ghost use Rattle.std.specs.Prelude.{◌≡◌, ℕ, ◌+◌, ◌*◌, ◌<◌, ◌≤◌, length, get_or};
 ghost use Rattle.sets.specs.Bit.{bit};
 ghost use Rattle.transitions.specs.Places.{starts_at, halves_end};

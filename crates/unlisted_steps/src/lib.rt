@@ -1,4 +1,6 @@
 // One step of the reader's machine on a stack area alone: no production is listed, and a place popped keeps its number.
+#![tactic(auto)]
+
 ghost use Rattle.std.specs.Prelude.{◌≡◌, List, ℕ, ◌<◌, ◌^◌};
 ghost use Rattle.tables.specs.Layout.{states, productions, left_of, length_of, cell_of};
 ghost use Rattle.unlisted_steps.specs.Spot.{Readable, Stands, Standing, Shifts, Reduces};
