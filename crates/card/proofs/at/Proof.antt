@@ -4,19 +4,19 @@ use borrow.Author.Rules.{rules}
 use Rattle.card.proofs.at.Statement.{statement}
 use Rattle.card.proofs.at.Tie as tie
 
-mul-result : tie.Need-overflow-mul-result
-mul-result c = search rules
+offset_bounds-s-i : tie.Need-offset_bounds-s-i
+offset_bounds-s-i c = search rules
 
-shared-slice-read-result : tie.Need-shared-slice-read-result
-shared-slice-read-result c = search rules
+bounds-s-i : tie.Need-bounds-s-i
+bounds-s-i c = search rules
 
-returns : tie.Need-returns
-returns c = search rules
+returns-then-i-s : tie.Need-returns-then-i-s
+returns-then-i-s c = search rules
 
-returns_2 : tie.Need-returns-2
-returns_2 c =
+returns-else-i-s : tie.Need-returns-else-i-s
+returns-else-i-s c =
     let args = c.before.args in
-    sym (get_or-eq_default args.s.now 0 c.if1.false)
+    sym (get_or-eq_default args.s.now 0 c.if-i-s.false)
 
-pub at-spec : {M : Type 1} → statement M
-at-spec = tie.close (tie.spec mul-result shared-slice-read-result returns returns_2)
+pub at_spec : {M : Type 1} → statement M
+at_spec = tie.close (tie.spec offset_bounds-s-i bounds-s-i returns-then-i-s returns-else-i-s)

@@ -15,8 +15,8 @@ nonterminals-requires c κs = search rules
 wider-requires-2 : tie.Need-wider-requires-2
 wider-requires-2 c κs = search rules
 
-add-end : tie.Need-overflow-add-end
-add-end c = search rules
+overflow_add-end : tie.Need-overflow_add-end
+overflow_add-end c = search rules
 
 terminals-requires-2 : tie.Need-terminals-requires-2
 terminals-requires-2 c κs = search rules
@@ -28,15 +28,15 @@ returns : tie.Need-returns
 unfolding is_nonterminal
 returns c = cc
 
-pub is-nonterminal-spec : {M : Type 1} → statement M
-is-nonterminal-spec =
+pub is_nonterminal_spec : {M : Type 1} → statement M
+is_nonterminal_spec =
     tie.close
     (tie.spec
     terminals-requires
     wider-requires
     nonterminals-requires
     wider-requires-2
-    add-end
+    overflow_add-end
     terminals-requires-2
     wider-requires-3
     returns)

@@ -15,8 +15,8 @@ nonterminals-requires c κs = search rules
 wider-requires-2 : tie.Need-wider-requires-2
 wider-requires-2 c κs = search rules
 
-add-end : tie.Need-overflow-add-end
-add-end c = search rules
+overflow_add-end : tie.Need-overflow_add-end
+overflow_add-end c = search rules
 
 wider-requires-3 : tie.Need-wider-requires-3
 wider-requires-3 c κs = search rules
@@ -25,14 +25,14 @@ returns : tie.Need-returns
 unfolding is_symbol
 returns c = cc
 
-pub is-symbol-spec : {M : Type 1} → statement M
-is-symbol-spec =
+pub is_symbol_spec : {M : Type 1} → statement M
+is_symbol_spec =
     tie.close
     (tie.spec
     terminals-requires
     wider-requires
     nonterminals-requires
     wider-requires-2
-    add-end
+    overflow_add-end
     wider-requires-3
     returns)

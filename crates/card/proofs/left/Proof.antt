@@ -3,11 +3,11 @@ use Rattle.grammar.specs.Card.{left_of}
 use Rattle.card.proofs.left.Statement.{statement}
 use Rattle.card.proofs.left.Tie as tie
 
-wide_requires : tie.Need-wide-requires
-wide_requires c κs = search rules
+wide-requires : tie.Need-wide-requires
+wide-requires c κs = search rules
 
-add_at : tie.Need-overflow-add-at
-add_at c = search rules
+overflow_add-wide : tie.Need-overflow_add-wide
+overflow_add-wide c = search rules
 
 at-requires : tie.Need-at-requires
 at-requires c κs = search rules
@@ -16,5 +16,5 @@ returns : tie.Need-returns
 unfolding left_of
 returns c = cc
 
-pub left-spec : {M : Type 1} → statement M
-left-spec = tie.close (tie.spec wide_requires add_at at-requires returns)
+pub left_spec : {M : Type 1} → statement M
+left_spec = tie.close (tie.spec wide-requires overflow_add-wide at-requires returns)

@@ -10,73 +10,73 @@ use Rattle.sets.specs.Tests.{all_below}
 use Rattle.card.proofs.lefts_ok.Statement.{statement}
 use Rattle.card.proofs.lefts_ok.Tie as tie
 
-abbrev invariant_loop : tie.invariant-loop
-invariant_loop c n i₀ i = (all_below i (λ (j : ℕ). is_nonterminal c (left_of c j)) ≡ true) × (i ≤ n)
+abbrev invariant-loop-i : tie.invariant-loop-i
+invariant-loop-i c n i₀ i = (all_below i (λ (j : ℕ). is_nonterminal c (left_of c j)) ≡ true) × (i ≤ n)
 
-abbrev decreases_loop : tie.decreases-loop
-decreases_loop c n i₀ i = n - i
+abbrev decreases-loop-i : tie.decreases-loop-i
+decreases-loop-i c n i₀ i = n - i
 
-productions-requires : tie.Need-productions-requires invariant_loop decreases_loop
-productions-requires c κs = search rules
+productions-n-requires : tie.Need-productions-n-requires invariant-loop-i decreases-loop-i
+productions-n-requires c κs = search rules
 
-loop_holds : tie.Need-loop-init invariant_loop decreases_loop
+loop-i-init : tie.Need-loop-i-init invariant-loop-i decreases-loop-i
 unfolding all_below
-loop_holds c = (refl, zero-le)
+loop-i-init c = (refl, zero-le)
 
-left-requires : tie.Need-left-requires invariant_loop decreases_loop
+left-requires : tie.Need-left-requires invariant-loop-i decreases-loop-i
 left-requires c κs = search rules
 
-is-nonterminal-requires : tie.Need-is-nonterminal-requires invariant_loop decreases_loop
-is-nonterminal-requires c κs = search rules
+is_nonterminal-requires : tie.Need-is_nonterminal-requires invariant-loop-i decreases-loop-i
+is_nonterminal-requires c κs = search rules
 
-returns : tie.Need-returns invariant_loop decreases_loop
+returns-then-not-is_nonterminal : tie.Need-returns-then-not-is_nonterminal invariant-loop-i decreases-loop-i
 unfolding lefts_ok
-returns c =
+returns-then-not-is_nonterminal c =
     let args = c.before.before.before.before.before.before.before.args in
-    let loop-test = c.before.before.before.loop-test in
-    let productions-call = c.before.before.before.before.before.productions in
+    let loop-test = c.before.before.before.loop-i-test in
+    let productions-call = c.before.before.before.before.before.productions-n in
     let left-call = c.before.before.left in
-    let is-nonterminal-call = c.before.is-nonterminal in
+    let is-nonterminal-call = c.before.is_nonterminal in
     all_fails (λ (j : ℕ). is_nonterminal args.c.now (left_of args.c.now j)) _ _ (omega (arith, loop-test.true, productions-call.ensures))
-    (ap (is_nonterminal args.c.now) (sym left-call.ensures) ∙ sym is-nonterminal-call.ensures ∙ not-true _ c.if1.true)
+    (ap (is_nonterminal args.c.now) (sym left-call.ensures) ∙ sym is-nonterminal-call.ensures ∙ not-true _ c.if-not-is_nonterminal.true-raw)
 
-add_i : tie.Need-overflow-add-i invariant_loop decreases_loop
-add_i c = omega arith
+overflow_add-i : tie.Need-overflow_add-i invariant-loop-i decreases-loop-i
+overflow_add-i c = omega arith
 
-loop_less : tie.Need-loop-smaller invariant_loop decreases_loop
-loop_less c = omega arith
+loop-i-smaller : tie.Need-loop-i-smaller invariant-loop-i decreases-loop-i
+loop-i-smaller c = omega arith
 
-loop_again : tie.Need-loop-preserved invariant_loop decreases_loop
+loop-i-preserved : tie.Need-loop-i-preserved invariant-loop-i decreases-loop-i
 unfolding lefts_ok
-loop_again c =
+loop-i-preserved c =
     let args = c.before.before.before.before.before.before.before.args in
-    let loop = c.before.before.before.before.loop in
+    let loop = c.before.before.before.before.loop-i in
     let left-call = c.before.before.left in
-    let is-nonterminal-call = c.before.is-nonterminal in (
+    let is-nonterminal-call = c.before.is_nonterminal in (
       all_more (λ (j : ℕ). is_nonterminal args.c.now (left_of args.c.now j)) _ loop.invariant.0
-          (ap (is_nonterminal args.c.now) (sym left-call.ensures) ∙ sym is-nonterminal-call.ensures ∙ not-false _ c.if1.false),
+          (ap (is_nonterminal args.c.now) (sym left-call.ensures) ∙ sym is-nonterminal-call.ensures ∙ not-false _ c.if-not-is_nonterminal.false-raw),
       omega arith,
     )
 
-returns_2 : tie.Need-returns-2 invariant_loop decreases_loop
+returns : tie.Need-returns invariant-loop-i decreases-loop-i
 unfolding lefts_ok
-returns_2 c =
-    let loop = c.before.loop in
-    let productions-call = c.before.before.productions in
-    all_end _ _ _ loop.invariant.0 (omega (arith, loop.invariant.1, productions-call.ensures)) (omega (arith, c.loop-test.false, productions-call.ensures))
+returns c =
+    let loop = c.before.loop-i in
+    let productions-call = c.before.before.productions-n in
+    all_end _ _ _ loop.invariant.0 (omega (arith, loop.invariant.1, productions-call.ensures)) (omega (arith, c.loop-i-test.false, productions-call.ensures))
 
-pub lefts-ok-spec : {M : Type 1} → statement M
-lefts-ok-spec =
+pub lefts_ok_spec : {M : Type 1} → statement M
+lefts_ok_spec =
     tie.close
     (tie.spec
-    invariant_loop
-    decreases_loop
-    productions-requires
-    loop_holds
+    invariant-loop-i
+    decreases-loop-i
+    productions-n-requires
+    loop-i-init
     left-requires
-    is-nonterminal-requires
-    returns
-    add_i
-    loop_less
-    loop_again
-    returns_2)
+    is_nonterminal-requires
+    returns-then-not-is_nonterminal
+    overflow_add-i
+    loop-i-smaller
+    loop-i-preserved
+    returns)

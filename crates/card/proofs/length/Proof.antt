@@ -6,17 +6,17 @@ use Rattle.card.proofs.length.Tie as tie
 productions-requires : tie.Need-productions-requires
 productions-requires c κs = search rules
 
-wide_requires : tie.Need-wide-requires
-wide_requires c κs = search rules
+wide-requires : tie.Need-wide-requires
+wide-requires c κs = search rules
 
-add_at : tie.Need-overflow-add-at
-add_at c = search rules
+overflow_add-wide : tie.Need-overflow_add-wide
+overflow_add-wide c = search rules
 
 wide-requires-2 : tie.Need-wide-requires-2
 wide-requires-2 c κs = search rules
 
-add-at-2 : tie.Need-overflow-add-at-2
-add-at-2 c = search rules
+overflow_add-wide-2 : tie.Need-overflow_add-wide-2
+overflow_add-wide-2 c = search rules
 
 at-requires : tie.Need-at-requires
 at-requires c κs = search rules
@@ -30,9 +30,9 @@ length_spec =
     tie.close
     (tie.spec
     productions-requires
-    wide_requires
-    add_at
+    wide-requires
+    overflow_add-wide
     wide-requires-2
-    add-at-2
+    overflow_add-wide-2
     at-requires
     returns)

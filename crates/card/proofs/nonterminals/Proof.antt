@@ -10,5 +10,5 @@ returns : tie.Need-returns
 unfolding nonterminals
 returns c = cc
 
-pub nonterminals-spec : {M : Type 1} → statement M
-nonterminals-spec = tie.close (tie.spec at-requires returns)
+pub nonterminals_spec : {M : Type 1} → statement M
+nonterminals_spec = tie.close (tie.spec at-requires returns)

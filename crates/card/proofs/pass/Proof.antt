@@ -8,23 +8,23 @@ use Rattle.card.proofs.PassLaws.{tells_false}
 use Rattle.card.proofs.pass.Statement.{statement}
 use Rattle.card.proofs.pass.Tie as tie
 
-abbrev invariant_loop : tie.invariant-loop
-invariant_loop c n p₀ r₀ p r = After c r p × (r ≤ n)
+abbrev invariant-loop-r : tie.invariant-loop-r
+invariant-loop-r c n p₀ r₀ p r = After c r p × (r ≤ n)
 
-abbrev decreases_loop : tie.decreases-loop
-decreases_loop c n p₀ r₀ p r = n - r
+abbrev decreases-loop-r : tie.decreases-loop-r
+decreases-loop-r c n p₀ r₀ p r = n - r
 
-loop_holds : tie.Need-loop-init invariant_loop decreases_loop
+loop-r-init : tie.Need-loop-r-init invariant-loop-r decreases-loop-r
 unfolding start_of
-loop_holds c = (record { sum = refl; fault = tells_false (λ x. omega (arith, x.to)) }, zero-le)
+loop-r-init c = (record { sum = refl; fault = tells_false (λ x. omega (arith, x.to)) }, zero-le)
 
-loop_again : tie.Need-loop-preserved invariant_loop decreases_loop
-loop_again c = (c.pass-one.ensures, omega arith)
+loop-r-preserved : tie.Need-loop-r-preserved invariant-loop-r decreases-loop-r
+loop-r-preserved c = (c.pass_one-p.ensures, omega arith)
 
-returns : tie.Need-returns invariant_loop decreases_loop
+returns : tie.Need-returns invariant-loop-r decreases-loop-r
 returns c =
-    let loop = c.before.loop in
-    let productions-call = c.before.before.productions in
+    let loop = c.before.loop-r in
+    let productions-call = c.before.before.productions-n in
     let e : loop.r ≡ productions-call.result = omega arith in
     rw (e, productions-call.ensures) at loop.invariant.0
 
@@ -32,12 +32,12 @@ pub pass_spec : {M : Type 1} → statement M
 pass_spec =
     tie.close
     (tie.spec
-    invariant_loop
-    decreases_loop
+    invariant-loop-r
+    decreases-loop-r
     (λ c κs. search rules)
-    loop_holds
-    (λ c κs. (c.before.loop.invariant.0, c.before.before.before.before.requires))
+    loop-r-init
+    (λ c κs. (c.before.loop-r.invariant.0, c.before.before.before.before.requires))
     (λ c. omega arith)
     (λ c. omega arith)
-    loop_again
+    loop-r-preserved
     returns)

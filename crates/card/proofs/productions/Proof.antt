@@ -10,5 +10,5 @@ returns : tie.Need-returns
 unfolding productions
 returns c = cc
 
-pub productions-spec : {M : Type 1} → statement M
-productions-spec = tie.close (tie.spec at-requires returns)
+pub productions_spec : {M : Type 1} → statement M
+productions_spec = tie.close (tie.spec at-requires returns)

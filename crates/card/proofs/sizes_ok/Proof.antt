@@ -6,20 +6,20 @@ use Rattle.card.proofs.sizes_ok.Tie as tie
 terminals-requires : tie.Need-terminals-requires
 terminals-requires c κs = search rules
 
-between_requires : tie.Need-between-requires
-between_requires c κs = search rules
+between-t-requires : tie.Need-between-t-requires
+between-t-requires c κs = search rules
 
 nonterminals-requires : tie.Need-nonterminals-requires
 nonterminals-requires c κs = search rules
 
-between-requires-2 : tie.Need-between-requires-2
-between-requires-2 c κs = search rules
+between-n-requires : tie.Need-between-n-requires
+between-n-requires c κs = search rules
 
 productions-requires : tie.Need-productions-requires
 productions-requires c κs = search rules
 
-between-requires-3 : tie.Need-between-requires-3
-between-requires-3 c κs = search rules
+between-p-requires : tie.Need-between-p-requires
+between-p-requires c κs = search rules
 
 symbols-requires : tie.Need-symbols-requires
 symbols-requires c κs = search rules
@@ -28,15 +28,15 @@ returns : tie.Need-returns
 unfolding sizes_ok
 returns c = cc
 
-pub sizes-ok-spec : {M : Type 1} → statement M
-sizes-ok-spec =
+pub sizes_ok_spec : {M : Type 1} → statement M
+sizes_ok_spec =
     tie.close
     (tie.spec
     terminals-requires
-    between_requires
+    between-t-requires
     nonterminals-requires
-    between-requires-2
+    between-n-requires
     productions-requires
-    between-requires-3
+    between-p-requires
     symbols-requires
     returns)

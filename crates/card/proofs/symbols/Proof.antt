@@ -10,5 +10,5 @@ returns : tie.Need-returns
 unfolding symbols
 returns c = cc
 
-pub symbols-spec : {M : Type 1} → statement M
-symbols-spec = tie.close (tie.spec at-requires returns)
+pub symbols_spec : {M : Type 1} → statement M
+symbols_spec = tie.close (tie.spec at-requires returns)

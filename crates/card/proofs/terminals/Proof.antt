@@ -10,5 +10,5 @@ returns : tie.Need-returns
 unfolding terminals
 returns c = cc
 
-pub terminals-spec : {M : Type 1} → statement M
-terminals-spec = tie.close (tie.spec at-requires returns)
+pub terminals_spec : {M : Type 1} → statement M
+terminals_spec = tie.close (tie.spec at-requires returns)
