@@ -19,107 +19,201 @@ def plain(s):
     return s.replace("_", "-")
 
 
+def changing(root, callee):
+    """The parameters of a function of the repository that are `&mut`."""
+    crate, *path = callee.split("::")
+    for folder, _, names in os.walk(os.path.join(root, crate, "src")):
+        for n in names:
+            text = open(os.path.join(folder, n), encoding="utf-8").read()
+            m = re.search(rf"\bfn {path[-1]}\b(?:<[^>]*>)?\(([^)]*)\)", text)
+            if m:
+                return [a.split(":")[0].strip() for a in m[1].split(",") if re.search(r":\s*&(?:'\w+ )?mut\b", a)]
+    return []
+
+
 class Places:
-    def __init__(self, it):
-        self.by = {}
-        self.new = {}
-        for (name, parent, step, call, renames), new in zip(it["places"], it["places_by_name"]):
-            self.by[plain(name)] = (parent and plain(parent), step, dict(map(tuple, renames)), name)
-            self.new[plain(name)] = new
-        steps = {}
-        for name, (parent, (old, new), renames, _) in self.by.items():
-            steps.setdefault(plain(old), set()).add((new, tuple(sorted(renames.items()))))
-        self.single = {k: next(iter(v)) for k, v in steps.items() if len(v) == 1 and k}
-        self.many = {k for k, v in steps.items() if len(v) > 1}
+    """The places of a function's code, in the older spelling: what a context there has, and where it came from."""
 
+    def __init__(self, it, root):
+        self.params, self.lasts = {}, {}
+        self.old_parent, self.parent, self.step, self.new, self.fields = {}, {}, {}, {}, {}
+        rows = it["places"]
+        for (name, parent, step, call, renames), new in zip(rows, it["places_by_name"]):
+            n = plain(name)
+            self.old_parent[n] = self.parent[n] = parent and plain(parent)
+            self.new[n] = new
+            self.step[n] = (plain(step[0]), step[1], dict(map(tuple, renames)))
+            self.fields[n] = []
+            if call and call in it["params"]:
+                self.params[n] = it["params"][call]
+                self.lasts[n] = changing(root, call)
+        for (name, *_), arm in zip(rows, it["arms"]):
+            if not arm:
+                continue
+            label, merged, fields = arm
+            n = plain(name)
+            up = n
+            for _ in range(merged):
+                up = self.old_parent.get(up)
+            self.parent[n] = up
+            self.fields[n] = [(plain(old), [plain(x) for x in path], [label, to]) for to, old, path in fields]
+        self.args = {}
+        for old, to in it["args"]:
+            self.args[tuple(plain(x.strip()) for x in old.strip(". ").split("."))] = [x.strip() for x in to.strip(". ").split(".")]
 
-def walk(places, place, comps, said):
-    """Components with today's labels, and what they lead to: a place, a step's renames, or None."""
-    out = []
-    at = place
-    while comps:
-        c = comps[0]
-        if c == "before":
-            out.append("before")
-            at = places.by[at][0] if at in places.by else None
-            comps = comps[1:]
-            if at is None:
-                return out + comps, None
-            continue
-        parent, (old, new), renames, _ = places.by[at]
-        if plain(c) == plain(old) and old:
-            out.append(new)
+    def start_fields(self, comps):
+        for n in (2, 1):
+            key = tuple(plain(c) for c in comps[:n])
+            if key in self.args:
+                return self.args[key] + comps[n:]
+        if comps and comps[0] == "pre":
+            comps = ["requires"] + comps[1:]
+        return comps
+
+    def named(self, place, rest):
+        """What a call's step says of each parameter goes by name today: `auto.1.0` is `auto.NAME`."""
+        for field, names in (("auto", self.params.get(place)), ("new", self.lasts.get(place))):
+            if names and rest[:1] == [field] and len(rest) > 1 and rest[1] in ("0", "1"):
+                k = 0
+                while 1 + k < len(rest) and rest[1 + k] == "1":
+                    k += 1
+                if k < len(names) and rest[1 + k:2 + k] == ["0"]:
+                    return [field, names[k]] + rest[2 + k:]
+        return rest
+
+    def at(self, place, comps):
+        """The components, if the context at this place has them itself."""
+        step, new, renames = self.step[place]
+        for old, path, to in sorted(self.fields[place], key=lambda f: -len(f[1])):
+            if plain(comps[0]) == old and [plain(c) for c in comps[1:1 + len(path)]] == path:
+                return to + comps[1 + len(path):], None
+        if self.fields[place]:
+            return None
+        if step and plain(comps[0]) == step:
             rest = comps[1:]
             if rest:
-                rest = [renames.get(rest[0], rest[0])] + rest[1:]
-                return out + rest, None
-            return out, ("step", renames)
-        if c in ("args", "requires", "lifetimes", "auto", "well_formed", "ghosts", "pre"):
-            return out + comps, None
-        said.append(f"no step {c} at {at}")
-        if plain(c) in places.single:
-            new, ren = places.single[plain(c)]
-            ren = dict(ren)
-            rest = comps[1:]
-            if rest:
-                rest = [ren.get(rest[0], rest[0])] + rest[1:]
-            return out + [new] + rest, None
-        return out + comps, None
-    return out, ("place", at)
+                return [new] + self.named(place, [renames.get(rest[0], rest[0])] + rest[1:]), None
+            return [new], ("step", renames, place)
+        return None
 
 
-def turn_body(places, text, known, said):
+START = {plain(s): s for s in ("args", "requires", "lifetimes", "auto", "well_formed", "ghosts", "pre", "ranges")}
+
+
+def climb(places, place, comps, said):
+    """The components behind a context of this place, with today's labels, and what they lead to."""
+    n = 0
+    while n < len(comps) and comps[n] == "before":
+        n += 1
+    rest = comps[n:]
+    if not rest:
+        goal = place
+        for _ in range(n):
+            goal = places.old_parent.get(goal) or goal
+        return to_place(places, place, goal)
+    at, ups = place, 0
+    head = plain(rest[0])
+    if head in START or head.startswith(("told-", "fits-")):
+        while places.parent.get(at):
+            at = places.parent[at]
+            ups += 1
+        rest = [START.get(head, rest[0])] + rest[1:]
+        return ["before"] * ups + places.start_fields(rest), (("fields", rest[0]) if len(rest) == 1 else None)
+    # the label where the count leads first, then the nearest one that is so called
+    while at:
+        got = places.at(at, rest)
+        if got:
+            return ["before"] * ups + got[0], got[1]
+        at = places.parent.get(at)
+        ups += 1
+    said.append(f"no step {'.'.join(rest[:2])} above {place}")
+    return comps, None
+
+
+def to_place(places, place, goal):
+    above = set()
+    g = goal
+    while g:
+        above.add(g)
+        g = places.old_parent.get(g)
+    at, ups = place, 0
+    while at and at not in above:
+        at = places.parent.get(at)
+        ups += 1
+    return ["before"] * ups, ("place", at or goal)
+
+
+def turn_body(places, text, known, said, helpers, takes):
     """Chains in text, where known gives the place of each variable; `let` adds to it, in the order of the text."""
-    pos = 0
-    out = []
-    let = re.compile(rf"\blet ({ID}) = ({ID})((?:\.(?:{ID}|\d+))*) in\b")
-    token = re.compile(rf"(?P<let>\blet ({ID}) = ({ID})((?:\.(?:{ID}|\d+))*) in\b)|(?P<chain>{CHAIN.pattern})")
+    token = re.compile(rf"(?P<let>\blet (?P<name>{ID}) = (?P<value>[^\n]*?) in\b)|(?P<call>\((?P<fn>{ID}) (?P<with>[^()]*(?:\([^()]*\)[^()]*)*)\)(?P<tail>(?:\.(?:{ID}|\d+))+))|(?P<chain>{CHAIN.pattern})")
     known = dict(known)
 
     def chain(var, comps):
         comps = [c for c in comps.split(".") if c]
-        if var in known:
-            kind = known[var]
-            if kind[0] == "place":
-                return walk(places, kind[1], comps, said)
-            if kind[0] == "step":
-                return ([kind[1].get(comps[0], comps[0])] + comps[1:] if comps else []), (kind if not comps else None)
-        # an unknown head: a step that has one new name wherever it stands
-        res = []
-        ren = None
-        for c in comps:
-            if ren is not None:
-                c = ren.get(c, c)
-                ren = None
-            elif plain(c) in places.single and (res == [] or res[-1] == "before"):
-                c, r = places.single[plain(c)]
-                ren = dict(r)
-            elif plain(c) in places.many and (res == [] or res[-1] == "before"):
-                said.append(f"which {c}?")
-            res.append(c)
-        return res, None
+        kind = known.get(var)
+        if kind and kind[0] == "place":
+            if not comps:
+                return [], kind
+            return climb(places, kind[1], comps, said)
+        if kind and kind[0] == "step":
+            return (places.named(kind[2], [kind[1].get(comps[0], comps[0])] + comps[1:]) if comps else []), (kind if not comps else None)
+        if kind and kind[0] == "fields" and comps:
+            key = (plain(kind[1]), plain(comps[0]))
+            return (places.args[key][1:] if key in places.args else [comps[0]]) + comps[1:], None
+        return comps, None
 
-    for m in token.finditer(text):
-        out.append(text[pos:m.start()])
-        pos = m.end()
-        if m["let"]:
-            name, var, comps = m[2], m[3], m[4]
-            if comps or var in known:
-                res, to = chain(var, comps)
-                out.append(f"let {name} = " + ".".join([var] + res) + " in")
+    def meant(start, name, text):
+        """The place that a variable should have, by what is made of it."""
+        for m in re.finditer(rf"\b({ID}) {re.escape(name)}(?![\w'.-])", text):
+            if m[1] in takes:
+                return takes[m[1]]
+        for m in re.finditer(rf"(?<![\w'.-]){re.escape(name)}\.({ID})", text):
+            if m[1] != "before" and plain(m[1]) not in START:
+                at = start
+                while at:
+                    if places.at(at, [m[1]]) or any(plain(m[1]) == f[0] for f in places.fields[at]):
+                        return at
+                    at = places.parent.get(at)
+        return None
+
+    def go(text):
+        out, pos = [], 0
+        for m in token.finditer(text):
+            out.append(text[pos:m.start()])
+            pos = m.end()
+            if m["let"]:
+                name, value = m["name"], m["value"]
+                c = re.fullmatch(rf"({ID})((?:\.(?:{ID}|\d+))*)", value)
+                if c:
+                    res, to = chain(c[1], c[2])
+                    if to and to[0] == "place" and c[2] and set(c[2].split(".")) <= {"", "before"}:
+                        better = meant(known[c[1]][1], name, text[m.end():])
+                        if better:
+                            res, to = to_place(places, known[c[1]][1], better)
+                    out.append(f"let {name} = " + ".".join([c[1]] + res) + " in")
+                else:
+                    h = re.match(rf"({ID}) ", value)
+                    to = ("place", helpers[h[1]]) if h and h[1] in helpers else None
+                    out.append(f"let {name} = " + go(value) + " in")
                 if to is not None:
                     known[name] = to
-                elif name in known:
-                    del known[name]
+                else:
+                    known.pop(name, None)
+            elif m["call"]:
+                inner = go(m["with"])
+                if m["fn"] in helpers:
+                    res, _ = climb(places, helpers[m["fn"]], m["tail"][1:].split("."), said)
+                    out.append(f"({m['fn']} {inner})." + ".".join(res))
+                else:
+                    out.append(f"({m['fn']} {inner}){m['tail']}")
             else:
-                out.append(m[0])
-                known.pop(name, None)
-        else:
-            g = CHAIN.match(m[0])
-            res, _ = chain(g[1], g[2])
-            out.append(".".join([g[1]] + res))
-    out.append(text[pos:])
-    return "".join(out)
+                g = CHAIN.match(m[0])
+                res, _ = chain(g[1], g[2])
+                out.append(".".join([g[1]] + res))
+        out.append(text[pos:])
+        return "".join(out)
+
+    return go(text)
 
 
 def pieces(text):
@@ -175,12 +269,12 @@ def split_arrows(sig):
     return out
 
 
-def turn(path, it, fn, said):
+def turn(path, it, fn, said, root):
     text = open(path, encoding="utf-8").read()
     if "tie.spec" not in text:
         said.append("no tie.spec")
         return
-    places = Places(it)
+    places = Places(it, root)
     loops = {plain(a): b for (a, b), _ in it["loops"]}
     args = arguments(text)
     inv = 2 * len(it["loops"])
@@ -202,6 +296,14 @@ def turn(path, it, fn, said):
         for a, (old_place, new_place) in zip(given, it["asked_at"]):
             if a.startswith("("):
                 inline[a] = plain(old_place)
+    # helpers that lead from one place to another
+    helpers, takes = {}, {}
+    for m in re.finditer(rf"(?m)^ *(?:pub |abbrev )*({ID}) : (.*tie\.([A-Za-z0-9_-]+)[^→\n]*)$", text):
+        if plain(m[3]) in places.new and "→" in m[2]:
+            helpers[m[1]] = plain(m[3])
+    for m in re.finditer(rf"(?m)^ *(?:pub |abbrev )*({ID}) : \(?(?:{ID} : )?tie\.([A-Za-z0-9_-]+)[^→\n]*→", text):
+        if plain(m[2]) in places.new:
+            takes[m[1]] = plain(m[2])
     # types of contexts and goals
     def kind(m):
         w = m[1]
@@ -223,7 +325,7 @@ def turn(path, it, fn, said):
             ways = split_arrows(m[3])
             for k, w in enumerate(ways[:-1]):
                 t = re.search(r"tie\.([A-Za-z0-9_-]+)", w)
-                if t and plain(t[1]) in places.by:
+                if t and plain(t[1]) in places.new:
                     b = re.match(rf"\(({ID}) :", w)
                     if b:
                         known[b[1]] = ("place", plain(t[1]))
@@ -233,7 +335,7 @@ def turn(path, it, fn, said):
                         if k < len(words) and re.fullmatch(ID, words[k]):
                             known[words[k]] = ("place", plain(t[1]))
         for m in re.finditer(rf"\(({ID}) : tie\.([A-Za-z0-9_-]+)", p):
-            if plain(m[2]) in places.by:
+            if plain(m[2]) in places.new:
                 known[m[1]] = ("place", plain(m[2]))
         m = re.match(rf"(?:pub |abbrev )*({ID}) ", p)
         name = m[1] if m else None
@@ -251,16 +353,21 @@ def turn(path, it, fn, said):
                     words = re.findall(rf"{ID}|\([^()]*\)|_", re.sub(r"\{[^}]*\}", "", c[1]))
                     for k, w in enumerate(ways[:-1]):
                         t = re.search(r"tie\.([A-Za-z0-9_-]+)", w)
-                        if t and plain(t[1]) in places.by and k < len(words) and re.fullmatch(ID, words[k]):
+                        if t and plain(t[1]) in places.new and k < len(words) and re.fullmatch(ID, words[k]):
                             known[words[k]] = ("place", plain(t[1]))
         if "tie.close" in p:
             for a, place in inline.items():
                 c = re.match(rf"\(λ ({ID})", a)
                 if c and a in p:
-                    p = p.replace(a, turn_body(places, a, {c[1]: ("place", place)}, said), 1)
+                    p = p.replace(a, turn_body(places, a, {c[1]: ("place", place)}, said, helpers, takes), 1)
             new = p
         else:
-            new = turn_body(places, p, known, said)
+            m = re.match(rf"({ID}) ({ID}) = ({ID})((?:\.before)+)\s*$", p)
+            if m and m[1] in helpers and m[2] == m[3] and m[2] in known:
+                ups, _ = to_place(places, known[m[2]][1], helpers[m[1]])
+                new = p.replace(m[3] + m[4], ".".join([m[3]] + ups))
+            else:
+                new = turn_body(places, p, known, said, helpers, takes)
         out.append(new)
     text = "\n".join(out)
     text = re.sub(r"\btie\.([A-Za-z0-9_-]+)", kind, text)
@@ -296,7 +403,7 @@ def main(argv):
         if not os.path.exists(path):
             continue
         said = []
-        turn(path, value, m[1], said)
+        turn(path, value, m[1], said, os.path.dirname(os.path.abspath(folder)))
         for s in said:
             print(f"{m[1]}: {s}")
     return 0

@@ -149,7 +149,7 @@ fn lefts_ok(c: &[u16]) -> bool
 
 // What the pass over the productions holds after some of them: the sum of their lengths, and whether one of that
 // many first symbols, as far as L goes, is one that 9 refuses.
-#[derive(Drop)]
+#[derive(Clone, Copy)]
 struct PassState {
     sum: usize,
     fault: bool,

@@ -5,7 +5,7 @@ ghost use Rattle.std.specs.Prelude.{◌≡◌, [], ◌∷◌, ◌≤◌};
 ghost use Rattle.sets.specs.Lists.{covered};
 ghost use Rattle.card_checks.specs.Checked.{refusal_numbers, verdict_numbers, Checked};
 
-#[derive(Drop)]
+#[derive(Clone, Copy)]
 pub enum Refusal {
     CardShort,
     SizesWrong,
@@ -17,7 +17,7 @@ pub enum Refusal {
     Useless(u16),
 }
 
-#[derive(Drop)]
+#[derive(Clone, Copy)]
 pub enum Verdict {
     Passed,
     Refused(Refusal),

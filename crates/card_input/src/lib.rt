@@ -13,7 +13,7 @@ use decimal::{Found, Scan};
 pub const CARD: usize = 772;
 
 // A card, with how many numbers it has; an input of other form; or a read failed.
-#[derive(Drop)]
+#[derive(Clone, Copy)]
 pub enum Input {
     Card(usize),
     NotACard,
@@ -21,14 +21,14 @@ pub enum Input {
 }
 
 // All of the input, with where the scan stands then; or a read failed.
-#[derive(Drop)]
+#[derive(Clone, Copy)]
 enum Whole {
     Scanned(Scan),
     Failed,
 }
 
 // A read: bytes, with where the scan stands behind them, the end of the input, or a failure.
-#[derive(Drop)]
+#[derive(Clone, Copy)]
 enum Part {
     Bytes(Scan),
     End,

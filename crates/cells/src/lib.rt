@@ -67,7 +67,7 @@ fn lowest(p: usize, words: &[u64; 128], m: u32, start: usize) -> u16
     4096
 }
 
-#[derive(Drop)]
+#[derive(Clone, Copy)]
 pub struct Met {
     pub lower: u16,
     pub upper: u16,

@@ -4,7 +4,7 @@ ghost use Rattle.decimal.specs.Scanning.{fed_of, class_of, entered, fed_in, fed,
 
 // Between numbers, with so many of them read; inside the number at a place, which stands in the
 // area as far as it was read; or past a fault. An input starts at Between(0).
-#[derive(Drop)]
+#[derive(Clone, Copy)]
 pub enum Scan {
     Between(usize),
     Inside(usize),
@@ -12,13 +12,13 @@ pub enum Scan {
 }
 
 // How many numbers a whole input has.
-#[derive(Drop)]
+#[derive(Clone, Copy)]
 pub enum Found {
     Numbers(usize),
     NotACard,
 }
 
-#[derive(Drop)]
+#[derive(Clone, Copy)]
 enum Class {
     Space,
     Digit(u8),

@@ -15,14 +15,14 @@ use tables::Shape;
 use unlisted_steps::{Next, Spot};
 
 // The open terminals that can follow, or that the fresh reading for one of them ran out of steps or places, or broke off.
-#[derive(Drop)]
+#[derive(Clone, Copy)]
 pub enum Expected {
     Known(u64),
     Cut,
 }
 
 // What comes of reading the line alone: the spot behind it, a terminal of it with no action, or a cut.
-#[derive(Drop)]
+#[derive(Clone, Copy)]
 enum Arrival {
     Arrived(Spot),
     Wrong,
@@ -30,7 +30,7 @@ enum Arrival {
 }
 
 // Terminals by what their cells in one row ask for: a shift or acceptance, the reduction by a production, or another one.
-#[derive(Drop)]
+#[derive(Clone, Copy)]
 struct Sorted {
     found: u64,
     same: u64,
@@ -38,14 +38,14 @@ struct Sorted {
     production: usize,
 }
 
-#[derive(Drop)]
+#[derive(Clone, Copy)]
 enum Sorting {
     Into(Sorted),
     Cut,
 }
 
 // What comes of a pass: the terminals found, and those left for a later one.
-#[derive(Drop)]
+#[derive(Clone, Copy)]
 enum Passed {
     Over { found: u64, later: u64 },
     Wrong,

@@ -18,7 +18,7 @@ use lookaheads::Clash;
 use relations::Relation;
 
 // A table, or a refusal; `numbers` gives the paper's number and values of each.
-#[derive(Drop)]
+#[derive(Clone, Copy)]
 pub enum Answer {
     Table,
     TableShort,

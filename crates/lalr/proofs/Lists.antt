@@ -74,6 +74,7 @@ all_of [] h = none
 all_of (x ∷ xs) h = some (h x (Memᴰ.head refl)) (all_of xs (λ j t. h j (Memᴰ.tail t)))
 
 pub all_in : (s : ℕ) (ks : List ℕ) (j : ℕ) → Memᴰ j ks → bit (with_all s ks) j ≡ true
+all_in s [] j m = elim m [ ]
 all_in s (k ∷ ks) j (Memᴰ.head e) = all_keep (with' s k) ks j (rw e (has_with_same s k))
 all_in s (k ∷ ks) j (Memᴰ.tail m) = all_in (with' s k) ks j m
 

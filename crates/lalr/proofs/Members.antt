@@ -79,6 +79,7 @@ has_of_same s k e = subst (λ (x : ℕ). bit x k ≡ true) e (has_with_same s k)
 
 -- a set that the list leaves alone has all of the list
 pub has_of_all : (s : ℕ) (ks : List ℕ) → with_all s ks ≡ s → {j : ℕ} → Memᴰ j ks → bit s j ≡ true
+has_of_all s [] e {j = j} m = elim m [ ]
 has_of_all s (k ∷ ks) e (Memᴰ.head {x = x} p) =
     let g : s ≤ with' s x = with_grows s x in
     let g2 : with' s x ≤ with_all (with' s x) ks = all_grow (with' s x) ks in

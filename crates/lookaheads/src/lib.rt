@@ -155,7 +155,7 @@ fn shifts(z: &[u64], q: u16) -> u64
 }
 
 // No cell where two actions meet; or the first one: state, terminal and the two lowest numbers.
-#[derive(Drop)]
+#[derive(Clone, Copy)]
 pub enum Clash {
     Free,
     At(u16, u16, u16, u16),

@@ -95,7 +95,7 @@ module _ (g : Grammar) where
     symbols_tail : {n x : ℕ} {β : List ℕ} → Symbols n (x ∷ β) → Symbols n β
     symbols_tail (more h k s) = s
 
-    pub right_of : {γ : List ℕ} {r d : ℕ} → Origin r d γ → Symbols (g.terminals + g.nonterminals) (g.right r)
+    pub right_of : {r d : ℕ} {γ : List ℕ} → Origin r d γ → Symbols (g.terminals + g.nonterminals) (g.right r)
     right_of (added e) = rw (e, f.added) (more (f.end_marker) (omega (arith, f.start_nonterminal)) none)
     right_of (inner α h k i) = f.right_symbols _ h
 

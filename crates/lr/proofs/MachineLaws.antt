@@ -58,8 +58,8 @@ module _ (g : Grammar) (f : Formed g) (act : List ℕ → ℕ → Act) (tab : Ru
       go : r < g.productions → Items.Item g γ r (length (g.right r)) → Reducible r γ
       go h (Items.with_lookahead _ i) = go₂ h (origin g (by_path i))
 
-  popped : {γ : List ℕ} (α : List ℕ) {r : ℕ} → Reducible r γ → γ ≡ α ++ g.right r → (r < g.productions) × Items.Viable g (α ++ g.left r ∷ [])
-  popped α {r} (reducible α' h k) e = (h, rw (append_cancel_right α' α (g.right r) e) at (after_viable k))
+  popped : {r : ℕ} {γ : List ℕ} (α : List ℕ) → Reducible r γ → γ ≡ α ++ g.right r → (r < g.productions) × Items.Viable g (α ++ g.left r ∷ [])
+  popped {r} α (reducible α' h k) e = (h, rw (append_cancel_right α' α (g.right r) e) at (after_viable k))
 
   -- determinism, up to an end
   pub same_end : {γ x p q γ₁ x₁ γ₂ x₂ : List ℕ}

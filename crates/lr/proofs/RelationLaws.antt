@@ -78,12 +78,12 @@ module _ (g : Grammar) (f : Formed g) (pr : AllProductive g) (count : ℕ) (has 
   only_first (suc zero) e = absurd (not_cons e)
   only_first (suc (suc d)) e = absurd (not_cons e)
 
-  follow_behind : {γ β q : List ℕ} {r d a s : ℕ} → drop d (g.right r) ≡ g.left s ∷ β → Yields g β q [] → Source r d a γ → FollowOf g next (walk next 0 γ) (g.left s) a
-  follow_behind {β} {r} {d} {s} e y (added er ea) =
+  follow_behind : {r d a s : ℕ} {γ β q : List ℕ} → drop d (g.right r) ≡ g.left s ∷ β → Yields g β q [] → Source r d a γ → FollowOf g next (walk next 0 γ) (g.left s) a
+  follow_behind {r} {d} {s = s} {β = β} e y (added er ea) =
       let right_is : g.right r ≡ g.terminals ∷ [] = ap g.right er ∙ f.added in
       let t = only_first d (rw right_is at e) in
       rw (ea, right_is, ← t.1, t.0) ends
-  follow_behind {β} {r} {d} {s} e y (inner α h nz k) =
+  follow_behind {r} {d} {s = s} {β = β} e y (inner α h nz k) =
       includes (take d (g.right r)) β h (sym (take-append-drop d (g.right r)) ∙ ap (λ (l : List ℕ). take d (g.right r) ++ l) e) y (sym (walk_append next 0 α (take d (g.right r)))) nz k
 
   follow_close : {γ β : List ℕ} {r d a s b : ℕ} → Canonical g γ r d a → Source r d a γ → drop d (g.right r) ≡ g.left s ∷ β → s < g.productions → FirstYields g β a b → FollowOf g next (walk next 0 γ) (g.left s) b

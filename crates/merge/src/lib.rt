@@ -8,7 +8,7 @@ ghost use Rattle.merge.specs.Answer.{about as about_card, answer_numbers, Passes
 
 use card_checks::{Refusal, Verdict};
 
-#[derive(Drop)]
+#[derive(Clone, Copy)]
 pub enum Answer {
     // The merged card is at the front of the area; its length.
     Merged(u16),

@@ -106,7 +106,7 @@ module _ {k g : Grammar} {h s : ℕ → ℕ} (e : Embeds k g h s) where
 
   module _ (fk : Formed k) (fg : Formed g) where
     -- terminals that g makes from symbols of k are made by k, too, by the images of its productions
-    pub yields_back : {α β p w : List ℕ} → Yields g β p w → Symbols (k.terminals + k.nonterminals) α → β ≡ map h α → Back k s α p w
+    pub yields_back : {β p w α : List ℕ} → Yields g β p w → Symbols (k.terminals + k.nonterminals) α → β ≡ map h α → Back k s α p w
     yields_back nil none c = ([], refl, nil)
     yields_back nil (more i j m) c = absurd (nil≢cons c)
     yields_back (terminal i j y) none c = absurd (cons≢nil c)

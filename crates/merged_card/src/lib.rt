@@ -17,7 +17,7 @@ fn moved(t: u16, k: u16, x: u16) -> u16
 }
 
 // The numbers of a card from a place on, so many, and by how much their nonterminals move.
-#[derive(Drop)]
+#[derive(Clone, Copy)]
 struct Part {
     from: usize,
     count: usize,
@@ -39,7 +39,7 @@ fn transfer(c: &[u16], p: Part, t: u16, out: &mut [u16], i: usize)
 }
 
 // An array of the merged card: what it has for the two new productions, and the parts of both cards.
-#[derive(Drop)]
+#[derive(Clone, Copy)]
 struct Pieces {
     x: u16,
     y: u16,
@@ -149,7 +149,7 @@ fn rights(a: &[u16], b: &[u16]) -> Pieces
 }
 
 // N, P and L of the merged card.
-#[derive(Drop)]
+#[derive(Clone, Copy)]
 struct Sizes {
     n: u16,
     p: u16,

@@ -11,7 +11,7 @@ ghost use Rattle.nonterminals.specs.Gathering.{word_of, join_of, Rights, needs_o
 ghost use Rattle.nonterminals.specs.Lessening.{count_of, total_of, Below, Witnessed, left_number, Lessened, LessenedDue, Due, DueBy, Lower};
 
 // What a set gathers.
-#[derive(Drop)]
+#[derive(Clone, Copy)]
 enum Kind {
     Productive,
     Reachable,

@@ -19,7 +19,7 @@ use tables::Shape;
 use unlisted_steps::Spot;
 
 // The steps made, the stack places in use and the productions listed.
-#[derive(Drop)]
+#[derive(Clone, Copy)]
 pub struct Counts {
     pub steps: u64,
     pub depth: usize,
@@ -27,7 +27,7 @@ pub struct Counts {
 }
 
 // A refusal, or how a reading ended; `numbers` of specs/Answer.antt gives the paper's number and values of each.
-#[derive(Drop)]
+#[derive(Clone, Copy)]
 pub enum Answer {
     Refused(Refusal),
     Accepted(Counts),
@@ -51,28 +51,28 @@ pub enum Answer {
 }
 
 // How a run ends: with its answer, or before a wrong terminal, where the expected set is yet to be found.
-#[derive(Drop)]
+#[derive(Clone, Copy)]
 enum Ending {
     Final(Answer),
     Wrong(usize, Counts),
 }
 
 // What comes of some steps: an end, or none, with no step left.
-#[derive(Drop)]
+#[derive(Clone, Copy)]
 enum Progress {
     Ended(Ending),
     Paused(State),
 }
 
 // Where a run has been: a fresh reading can go on from there. The second area holds the stack.
-#[derive(Drop)]
+#[derive(Clone, Copy)]
 struct Checkpoint {
     spot: Spot,
     position: usize,
 }
 
 // How a run ended, and its last checkpoint.
-#[derive(Drop)]
+#[derive(Clone, Copy)]
 struct Course {
     end: Ending,
     checkpoint: Checkpoint,

@@ -4,7 +4,7 @@
 ghost use Rattle.recognizer.specs.Outcome.{Recognizes, RecognizesRestricted};
 
 // The maker's answer where it made no table, or the reader's with the table made.
-#[derive(Drop)]
+#[derive(Clone, Copy)]
 pub enum Outcome {
     NoTable(generator::Answer),
     Read(parser::Answer),

@@ -11,20 +11,20 @@ ghost use Rattle.relations.specs.Path.{Leads, States};
 ghost use Rattle.relations.specs.Walk.{Node, Standing, Firsts, Nexts};
 ghost use Rattle.relations.specs.Steps.{Adds, Into, Opens, Index};
 
-#[derive(Drop)]
+#[derive(Clone, Copy)]
 pub enum Relation {
     Includes,
     Reads,
 }
 
 // A place in the walk along the edges of a node. Reads: `at` is a transition. Includes: `at` - 1 is an occurrence, and `set` the states of it that are left.
-#[derive(Drop)]
+#[derive(Clone, Copy)]
 pub struct Cursor {
     pub at: u32,
     pub set: [u64; 4],
 }
 
-#[derive(Drop)]
+#[derive(Clone, Copy)]
 pub struct Found {
     pub more: bool,
     pub node: u32,

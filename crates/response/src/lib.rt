@@ -15,7 +15,7 @@ use card_input::Input;
 use generator::Answer;
 
 // How a table is printed: line by line, or on pages.
-#[derive(Drop)]
+#[derive(Clone, Copy)]
 pub enum Form {
     Listing,
     Pages,

@@ -10,7 +10,7 @@ ghost use Rattle.sample.specs.Answer.{answer_numbers, Asked, Samples};
 
 use card_checks::{Refusal, Verdict};
 
-#[derive(Drop)]
+#[derive(Clone, Copy)]
 pub enum Answer {
     // The sample is at the front of the area; its length.
     Made(u16),

@@ -28,7 +28,7 @@ fn count(c: &[u16], e: &[u16; 120], u: bool, x: u16) -> u32
 }
 
 // The least sum of a right side, and the place of the symbol in it that uses the production; the right side's length for none.
-#[derive(Drop)]
+#[derive(Clone, Copy)]
 struct Found {
     sum: u32,
     place: u16,

@@ -11,7 +11,7 @@ use tables::Shape;
 
 // The stack places in use, the productions listed, the terminals passed, how many steps may still be made, and the
 // state on top. The steps made need no counter: each has passed a terminal or listed a production.
-#[derive(Drop)]
+#[derive(Clone, Copy)]
 pub struct State {
     pub depth: usize,
     pub listed: usize,
@@ -21,14 +21,14 @@ pub struct State {
 }
 
 // Why a step cannot be made.
-#[derive(Drop)]
+#[derive(Clone, Copy)]
 pub enum Stop {
     StackFull,
     ListFull,
     Broken,
 }
 
-#[derive(Drop)]
+#[derive(Clone, Copy)]
 pub enum Next {
     Ended(Stop),
     Moved(State),

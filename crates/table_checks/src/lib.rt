@@ -12,7 +12,7 @@ use cell_checks::{both, cells_ok, productions_ok, sizes_ok};
 use entry_checks::entries_ok;
 use tables::Shape;
 
-#[derive(Drop)]
+#[derive(Clone, Copy)]
 pub enum Refusal {
     TableShort,
     SizesWrong,
@@ -26,7 +26,7 @@ pub enum Refusal {
     ClosedWrong,
 }
 
-#[derive(Drop)]
+#[derive(Clone, Copy)]
 pub enum Verdict {
     Passed,
     Refused(Refusal),

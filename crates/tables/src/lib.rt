@@ -55,7 +55,7 @@ pub fn cells_at(p: usize, n: usize) -> usize
 }
 
 // The sizes of a table, the cells of a row and the place of the first cell.
-#[derive(Drop)]
+#[derive(Clone, Copy)]
 pub struct Shape {
     pub states: usize,
     pub terminals: usize,

@@ -8,7 +8,7 @@ ghost use Rattle.unlisted_steps.specs.Spot.{Readable, Stands, Standing, Shifts, 
 use tables::Shape;
 
 // The stack places in use, how many steps may still be made, and the state on top.
-#[derive(Drop)]
+#[derive(Clone, Copy)]
 pub struct Spot {
     pub depth: usize,
     pub left: u64,
@@ -16,7 +16,7 @@ pub struct Spot {
 }
 
 // The spot after a step, or why it cannot be made: no place is left, or the reduction would pop state 0 or leads to none.
-#[derive(Drop)]
+#[derive(Clone, Copy)]
 pub enum Next {
     Moved(Spot),
     Full,

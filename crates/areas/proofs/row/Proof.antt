@@ -15,17 +15,17 @@ returns c =
     let b4 = b3.before in
     let b5 = b4.before in
     let b6 = b5.before in
-    row_is _ _ (b5.wide.ensures ∙ b6.terminals.ensures) (b3.wide2.ensures ∙ b4.nonterminals.ensures)
-    (c.header-size.ensures ∙ ap header_size (b1.wide3.ensures ∙ b2.productions.ensures))
+    row_is _ _ (b5.wide.ensures ∙ b6.terminals.ensures) (b3.wide-2.ensures ∙ b4.nonterminals.ensures)
+    (c.header_size.ensures ∙ ap header_size (b1.wide-3.ensures ∙ b2.productions.ensures))
 
-mul-result : tie.Need-overflow-mul-result
-mul-result c = omega (arith, returns c, c.before.before.before.before.before.before.before.before.requires)
+overflow_mul-result : tie.Need-overflow_mul-result
+overflow_mul-result c = omega (arith, returns c, c.before.before.before.before.before.before.before.before.requires)
 
-add_result : tie.Need-overflow-add-result
-add_result c = omega (arith, returns c, c.before.before.before.before.before.before.before.before.requires)
+overflow_add-result : tie.Need-overflow_add-result
+overflow_add-result c = omega (arith, returns c, c.before.before.before.before.before.before.before.before.requires)
 
-pub row-spec : {M : Type 1} → statement M
-row-spec =
+pub row_spec : {M : Type 1} → statement M
+row_spec =
     tie.close
     (tie.spec
     (λ c κs. search rules)
@@ -36,6 +36,6 @@ row-spec =
     (λ c κs. search rules)
     (λ c κs. search rules)
     (λ c κs. search rules)
-    mul-result
-    add_result
+    overflow_mul-result
+    overflow_add-result
     returns)

@@ -9,8 +9,8 @@ use Rattle.card_checks.proofs.form_refusal.Tie as tie
 alone : {n m : ℕ} → n ≡ m → m ∷ [] ≡ n ∷ []
 alone e = ap (λ (k : ℕ). k ∷ []) (sym e)
 
-pub form-refusal-spec : {M : Type 1} → statement M
-form-refusal-spec =
+pub form_refusal_spec : {M : Type 1} → statement M
+form_refusal_spec =
     tie.close
     (tie.spec
     (λ c. alone (omega arith))

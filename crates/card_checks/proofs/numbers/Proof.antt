@@ -5,9 +5,9 @@ use Rattle.card_checks.proofs.Verdicts.{told}
 use Rattle.card_checks.proofs.numbers.Statement.{statement}
 use Rattle.card_checks.proofs.numbers.Tie as tie
 
-pub numbers-spec : {M : Type 1} → statement M
+pub numbers_spec : {M : Type 1} → statement M
 unfolding covered
-numbers-spec =
+numbers_spec =
     tie.close
     (tie.spec
     (λ c. search rules)
@@ -17,10 +17,10 @@ numbers-spec =
     (λ c. search rules)
     (λ c. search rules)
     (λ c. search rules)
-    (λ c. told c.enum_told.given.1)
-    (λ c. told c.enum-told2.given.1)
-    (λ c. told c.enum-told3.given.1)
-    (λ c. told c.enum-told4.given.1)
-    (λ c. told c.enum-told5.given.1)
-    (λ c. told c.enum-told6.given.1)
-    (λ c. told c.before.e.given.1))
+    (λ c. told c.in-CardShort.is)
+    (λ c. told c.in-SizesWrong.is)
+    (λ c. told c.in-LengthWrong.is)
+    (λ c. told c.in-LeftWrong.is)
+    (λ c. told c.in-SumWrong.is)
+    (λ c. told c.in-SymbolWrong.is)
+    (λ c. told c.in-Useless.is))

@@ -13,5 +13,5 @@ returns : tie.Need-returns
 unfolding action_test
 returns c = cc
 
-pub action-ok-spec : {M : Type 1} → statement M
-action-ok-spec = tie.close (tie.spec both-requires either-requires returns)
+pub action_ok_spec : {M : Type 1} → statement M
+action_ok_spec = tie.close (tie.spec both-requires either-requires returns)

@@ -9,56 +9,56 @@ use Rattle.cell_checks.specs.Rows.{action_test}
 use Rattle.cell_checks.proofs.actions_ok.Statement.{statement}
 use Rattle.cell_checks.proofs.actions_ok.Tie as tie
 
-abbrev invariant_loop : tie.invariant-loop
-invariant_loop t from n q e ok₀ i₀ ok i = (ok ≡ all_below i (λ i. action_test q e (get_or t (from + i) 0))) × (i ≤ n)
+abbrev invariant-loop-i : tie.invariant-loop-i
+invariant-loop-i t from n q e ok₀ i₀ ok i = (ok ≡ all_below i (λ i. action_test q e (get_or t (from + i) 0))) × (i ≤ n)
 
-abbrev decreases_loop : tie.decreases-loop
-decreases_loop t from n q e ok₀ i₀ ok i = n - i
+abbrev decreases-loop-i : tie.decreases-loop-i
+decreases-loop-i t from n q e ok₀ i₀ ok i = n - i
 
-loop_holds : tie.Need-loop-init invariant_loop decreases_loop
+loop-i-init : tie.Need-loop-i-init invariant-loop-i decreases-loop-i
 unfolding all_below
-loop_holds c = (refl, zero-le)
+loop-i-init c = (refl, zero-le)
 
-add-action-ok : tie.Need-overflow-add-action-ok invariant_loop decreases_loop
-add-action-ok c = omega (arith, c.before.before.before.requires)
+overflow_add-from : tie.Need-overflow_add-from invariant-loop-i decreases-loop-i
+overflow_add-from c = omega (arith, c.before.before.before.requires)
 
-mul-action-ok : tie.Need-overflow-mul-action-ok invariant_loop decreases_loop
-mul-action-ok c = omega (arith, c.before.before.before.requires)
+offset_bounds-t-from : tie.Need-offset_bounds-t-from invariant-loop-i decreases-loop-i
+offset_bounds-t-from c = omega (arith, c.before.before.before.requires)
 
-shared-slice-read-action-ok : tie.Need-shared-slice-read-action-ok invariant_loop decreases_loop
-shared-slice-read-action-ok c = omega (arith, c.before.before.before.before.requires)
+bounds-t-from : tie.Need-bounds-t-from invariant-loop-i decreases-loop-i
+bounds-t-from c = omega (arith, c.before.before.before.before.requires)
 
-action-ok-requires : tie.Need-action-ok-requires invariant_loop decreases_loop
-action-ok-requires c κs = search rules
+action_ok-requires : tie.Need-action_ok-requires invariant-loop-i decreases-loop-i
+action_ok-requires c κs = search rules
 
-both-requires : tie.Need-both-requires invariant_loop decreases_loop
-both-requires c κs = search rules
+both-ok-requires : tie.Need-both-ok-requires invariant-loop-i decreases-loop-i
+both-ok-requires c κs = search rules
 
-add_i : tie.Need-overflow-add-i invariant_loop decreases_loop
-add_i c = omega arith
+overflow_add-i : tie.Need-overflow_add-i invariant-loop-i decreases-loop-i
+overflow_add-i c = omega arith
 
-loop_less : tie.Need-loop-smaller invariant_loop decreases_loop
-loop_less c = omega arith
+loop-i-smaller : tie.Need-loop-i-smaller invariant-loop-i decreases-loop-i
+loop-i-smaller c = omega arith
 
-loop_again : tie.Need-loop-preserved invariant_loop decreases_loop
-loop_again c = (c.both.ensures ∙ all_step (λ i. action_test c.before.before.before.before.before.before.args.q c.before.before.before.before.before.before.args.e (get_or c.before.before.before.before.before.before.args.t.now (c.before.before.before.before.before.before.args.from + i) 0)) c.before.before.before.before.loop.i c.before.before.before.before.loop.invariant.0 c.before.action-ok.ensures, omega arith)
+loop-i-preserved : tie.Need-loop-i-preserved invariant-loop-i decreases-loop-i
+loop-i-preserved c = (c.both-ok.ensures ∙ all_step (λ i. action_test c.before.before.before.before.before.before.args.q c.before.before.before.before.before.before.args.e (get_or c.before.before.before.before.before.before.args.t.now (c.before.before.before.before.before.before.args.from + i) 0)) c.before.before.before.before.loop-i.i c.before.before.before.before.loop-i.invariant.0 c.before.action_ok.ensures, omega arith)
 
-returns : tie.Need-returns invariant_loop decreases_loop
-returns c = all_last (λ i. action_test c.before.before.before.args.q c.before.before.before.args.e (get_or c.before.before.before.args.t.now (c.before.before.before.args.from + i) 0)) _ c.before.loop.i c.before.loop.invariant.0 c.before.loop.invariant.1 c.loop-test.false
+returns : tie.Need-returns invariant-loop-i decreases-loop-i
+returns c = all_last (λ i. action_test c.before.before.before.args.q c.before.before.before.args.e (get_or c.before.before.before.args.t.now (c.before.before.before.args.from + i) 0)) _ c.before.loop-i.i c.before.loop-i.invariant.0 c.before.loop-i.invariant.1 c.loop-i-test.false
 
-pub actions-ok-spec : {M : Type 1} → statement M
-actions-ok-spec =
+pub actions_ok_spec : {M : Type 1} → statement M
+actions_ok_spec =
     tie.close
     (tie.spec
-    invariant_loop
-    decreases_loop
-    loop_holds
-    add-action-ok
-    mul-action-ok
-    shared-slice-read-action-ok
-    action-ok-requires
-    both-requires
-    add_i
-    loop_less
-    loop_again
+    invariant-loop-i
+    decreases-loop-i
+    loop-i-init
+    overflow_add-from
+    offset_bounds-t-from
+    bounds-t-from
+    action_ok-requires
+    both-ok-requires
+    overflow_add-i
+    loop-i-smaller
+    loop-i-preserved
     returns)

@@ -8,45 +8,45 @@ use Rattle.machine.specs.Checks.{row_ok, cells_ok}
 use Rattle.cell_checks.proofs.cells_ok.Statement.{statement}
 use Rattle.cell_checks.proofs.cells_ok.Tie as tie
 
-abbrev invariant_loop : tie.invariant-loop
-invariant_loop t z n ok₀ q₀ ok q = (ok ≡ all_below q (row_ok t)) × (q ≤ n)
+abbrev invariant-loop-q : tie.invariant-loop-q
+invariant-loop-q t z n ok₀ q₀ ok q = (ok ≡ all_below q (row_ok t)) × (q ≤ n)
 
-abbrev decreases_loop : tie.decreases-loop
-decreases_loop t z n ok₀ q₀ ok q = n - q
+abbrev decreases-loop-q : tie.decreases-loop-q
+decreases-loop-q t z n ok₀ q₀ ok q = n - q
 
-loop_holds : tie.Need-loop-init invariant_loop decreases_loop
+loop-q-init : tie.Need-loop-q-init invariant-loop-q decreases-loop-q
 unfolding all_below
-loop_holds c = (refl, zero-le)
+loop-q-init c = (refl, zero-le)
 
-row-ok-requires : tie.Need-row-ok-requires invariant_loop decreases_loop
-row-ok-requires c κs = (c.before.before.before.requires, omega (arith, c.before.before.before.requires.shaped.states_are, c.loop-test.true))
+row_ok-requires : tie.Need-row_ok-requires invariant-loop-q decreases-loop-q
+row_ok-requires c κs = (c.before.before.before.requires, omega (arith, c.before.before.before.requires.shaped.states_are, c.loop-q-test.true))
 
-both-requires : tie.Need-both-requires invariant_loop decreases_loop
-both-requires c κs = search rules
+both-ok-requires : tie.Need-both-ok-requires invariant-loop-q decreases-loop-q
+both-ok-requires c κs = search rules
 
-add-q : tie.Need-overflow-add-q invariant_loop decreases_loop
-add-q c = omega (arith, c.before.before.before.before.before.requires.shaped.states_fit, c.before.before.loop-test.true)
+overflow_add-q : tie.Need-overflow_add-q invariant-loop-q decreases-loop-q
+overflow_add-q c = omega (arith, c.before.before.before.before.before.requires.shaped.states_fit, c.before.before.loop-q-test.true)
 
-loop_less : tie.Need-loop-smaller invariant_loop decreases_loop
-loop_less c = omega arith
+loop-q-smaller : tie.Need-loop-q-smaller invariant-loop-q decreases-loop-q
+loop-q-smaller c = omega arith
 
-loop_again : tie.Need-loop-preserved invariant_loop decreases_loop
-loop_again c = (c.both.ensures ∙ all_step (row_ok c.before.before.before.before.before.args.t.now) c.before.before.before.loop.q c.before.before.before.loop.invariant.0 c.before.row_ok.ensures, omega arith)
+loop-q-preserved : tie.Need-loop-q-preserved invariant-loop-q decreases-loop-q
+loop-q-preserved c = (c.both-ok.ensures ∙ all_step (row_ok c.before.before.before.before.before.args.t.now) c.before.before.before.loop-q.q c.before.before.before.loop-q.invariant.0 c.before.row_ok.ensures, omega arith)
 
-returns : tie.Need-returns invariant_loop decreases_loop
+returns : tie.Need-returns invariant-loop-q decreases-loop-q
 unfolding cells_ok
-returns c = all_last (row_ok c.before.before.before.args.t.now) _ c.before.loop.q c.before.loop.invariant.0 c.before.loop.invariant.1 c.loop-test.false ∙ ap (λ (n : ℕ). all_below n (row_ok c.before.before.before.args.t.now)) c.before.before.before.requires.shaped.states_are
+returns c = all_last (row_ok c.before.before.before.args.t.now) _ c.before.loop-q.q c.before.loop-q.invariant.0 c.before.loop-q.invariant.1 c.loop-q-test.false ∙ ap (λ (n : ℕ). all_below n (row_ok c.before.before.before.args.t.now)) c.before.before.before.requires.shaped.states_are
 
-pub cells-ok-spec : {M : Type 1} → statement M
-cells-ok-spec =
+pub cells_ok_spec : {M : Type 1} → statement M
+cells_ok_spec =
     tie.close
     (tie.spec
-    invariant_loop
-    decreases_loop
-    loop_holds
-    row-ok-requires
-    both-requires
-    add-q
-    loop_less
-    loop_again
+    invariant-loop-q
+    decreases-loop-q
+    loop-q-init
+    row_ok-requires
+    both-ok-requires
+    overflow_add-q
+    loop-q-smaller
+    loop-q-preserved
     returns)

@@ -16,5 +16,5 @@ returns : tie.Need-returns
 unfolding end_test
 returns c = cc
 
-pub end-ok-spec : {M : Type 1} → statement M
-end-ok-spec = tie.close (tie.spec both-requires either-requires either-requires-2 returns)
+pub end_ok_spec : {M : Type 1} → statement M
+end_ok_spec = tie.close (tie.spec both-requires either-requires either-requires-2 returns)

@@ -10,10 +10,10 @@ returns c =
     let b4 = c.before.before.before.before in
     let b5 = b4.before in
     let b7 = b5.before.before in
-    c.both2.ensures ∙ production_is b7.requires.0 b7.args.r b5.left.ensures b4.length-of.ensures c.before.both.ensures
+    c.both-2.ensures ∙ production_is b7.requires.0 b7.args.r b5.left-left.ensures b4.length_of-n.ensures c.before.both.ensures
 
-pub production-ok-spec : {M : Type 1} → statement M
-production-ok-spec =
+pub production_ok_spec : {M : Type 1} → statement M
+production_ok_spec =
     tie.close
     (tie.spec
     (λ c κs. search rules)

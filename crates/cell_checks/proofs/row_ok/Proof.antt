@@ -8,47 +8,47 @@ use borrow.Author.Rules.{rules}
 use Rattle.cell_checks.proofs.row_ok.Statement.{statement}
 use Rattle.cell_checks.proofs.row_ok.Tie as tie
 
-mul-from : tie.Need-overflow-mul-from
-mul-from c = omega (arith, row_fits c.before.before.requires.0 c.before.before.args.q c.before.before.requires.1, terminals_le c.before.before.requires.0.shaped, (sized _ c.before.before.requires.0.sizes).terminals_are, (sized _ c.before.before.requires.0.sizes).productions_are, c.before.before.requires.0.shaped.terminals_are, c.before.before.requires.0.shaped.productions_are, nonterminals_of_is c.before.before.requires.0.shaped, (sized _ c.before.before.requires.0.sizes).nonterminals_are, c.before.before.well-formed)
+overflow_mul-from : tie.Need-overflow_mul-from
+overflow_mul-from c = omega (arith, row_fits c.before.before.requires.0 c.before.before.args.q c.before.before.requires.1, terminals_le c.before.before.requires.0.shaped, (sized _ c.before.before.requires.0.sizes).terminals_are, (sized _ c.before.before.requires.0.sizes).productions_are, c.before.before.requires.0.shaped.terminals_are, c.before.before.requires.0.shaped.productions_are, nonterminals_of_is c.before.before.requires.0.shaped, (sized _ c.before.before.requires.0.sizes).nonterminals_are, c.before.before.well_formed)
 
-add-from : tie.Need-overflow-add-from
-add-from c = omega (arith, row_fits c.before.before.before.requires.0 c.before.before.before.args.q c.before.before.before.requires.1, terminals_le c.before.before.before.requires.0.shaped, (sized _ c.before.before.before.requires.0.sizes).terminals_are, (sized _ c.before.before.before.requires.0.sizes).productions_are, c.before.before.before.requires.0.shaped.terminals_are, c.before.before.before.requires.0.shaped.productions_are, nonterminals_of_is c.before.before.before.requires.0.shaped, (sized _ c.before.before.before.requires.0.sizes).nonterminals_are, c.before.before.before.well-formed)
+overflow_add-from : tie.Need-overflow_add-from
+overflow_add-from c = omega (arith, row_fits c.before.before.before.requires.0 c.before.before.before.args.q c.before.before.before.requires.1, terminals_le c.before.before.before.requires.0.shaped, (sized _ c.before.before.before.requires.0.sizes).terminals_are, (sized _ c.before.before.before.requires.0.sizes).productions_are, c.before.before.before.requires.0.shaped.terminals_are, c.before.before.before.requires.0.shaped.productions_are, nonterminals_of_is c.before.before.before.requires.0.shaped, (sized _ c.before.before.before.requires.0.sizes).nonterminals_are, c.before.before.before.well_formed)
 
-cast-n : tie.Need-overflow-cast-n
-cast-n c = search rules
+overflow_cast-n : tie.Need-overflow_cast-n
+overflow_cast-n c = search rules
 
-cast-e : tie.Need-overflow-cast-e
-cast-e c = search rules
+overflow_cast-e : tie.Need-overflow_cast-e
+overflow_cast-e c = search rules
 
-add-e : tie.Need-overflow-add-e
-add-e c = omega (arith, row_fits c.before.before.before.before.before.requires.0 c.before.before.before.before.before.args.q c.before.before.before.before.before.requires.1, terminals_le c.before.before.before.before.before.requires.0.shaped, (sized _ c.before.before.before.before.before.requires.0.sizes).terminals_are, (sized _ c.before.before.before.before.before.requires.0.sizes).productions_are, c.before.before.before.before.before.requires.0.shaped.terminals_are, c.before.before.before.before.before.requires.0.shaped.productions_are, nonterminals_of_is c.before.before.before.before.before.requires.0.shaped, (sized _ c.before.before.before.before.before.requires.0.sizes).nonterminals_are, c.before.before.before.before.before.well-formed)
+overflow_add-e : tie.Need-overflow_add-e
+overflow_add-e c = omega (arith, row_fits c.before.before.before.before.before.requires.0 c.before.before.before.before.before.args.q c.before.before.before.before.before.requires.1, terminals_le c.before.before.before.before.before.requires.0.shaped, (sized _ c.before.before.before.before.before.requires.0.sizes).terminals_are, (sized _ c.before.before.before.before.before.requires.0.sizes).productions_are, c.before.before.before.before.before.requires.0.shaped.terminals_are, c.before.before.before.before.before.requires.0.shaped.productions_are, nonterminals_of_is c.before.before.before.before.before.requires.0.shaped, (sized _ c.before.before.before.before.before.requires.0.sizes).nonterminals_are, c.before.before.before.before.before.well_formed)
 
-mul-end-ok : tie.Need-overflow-mul-end-ok
-mul-end-ok c = omega (arith, row_fits c.before.before.before.before.before.requires.0 c.before.before.before.before.before.args.q c.before.before.before.before.before.requires.1, terminals_le c.before.before.before.before.before.requires.0.shaped, (sized _ c.before.before.before.before.before.requires.0.sizes).terminals_are, (sized _ c.before.before.before.before.before.requires.0.sizes).productions_are, c.before.before.before.before.before.requires.0.shaped.terminals_are, c.before.before.before.before.before.requires.0.shaped.productions_are, nonterminals_of_is c.before.before.before.before.before.requires.0.shaped, (sized _ c.before.before.before.before.before.requires.0.sizes).nonterminals_are, c.before.before.before.before.before.well-formed)
+offset_bounds-t-from : tie.Need-offset_bounds-t-from
+offset_bounds-t-from c = omega (arith, row_fits c.before.before.before.before.before.requires.0 c.before.before.before.before.before.args.q c.before.before.before.before.before.requires.1, terminals_le c.before.before.before.before.before.requires.0.shaped, (sized _ c.before.before.before.before.before.requires.0.sizes).terminals_are, (sized _ c.before.before.before.before.before.requires.0.sizes).productions_are, c.before.before.before.before.before.requires.0.shaped.terminals_are, c.before.before.before.before.before.requires.0.shaped.productions_are, nonterminals_of_is c.before.before.before.before.before.requires.0.shaped, (sized _ c.before.before.before.before.before.requires.0.sizes).nonterminals_are, c.before.before.before.before.before.well_formed)
 
-shared-slice-read-end-ok : tie.Need-shared-slice-read-end-ok
-shared-slice-read-end-ok c = omega (arith, row_fits c.before.before.before.before.before.before.requires.0 c.before.before.before.before.before.before.args.q c.before.before.before.before.before.before.requires.1, terminals_le c.before.before.before.before.before.before.requires.0.shaped, (sized _ c.before.before.before.before.before.before.requires.0.sizes).terminals_are, (sized _ c.before.before.before.before.before.before.requires.0.sizes).productions_are, c.before.before.before.before.before.before.requires.0.shaped.terminals_are, c.before.before.before.before.before.before.requires.0.shaped.productions_are, nonterminals_of_is c.before.before.before.before.before.before.requires.0.shaped, (sized _ c.before.before.before.before.before.before.requires.0.sizes).nonterminals_are, c.before.before.before.before.before.before.well-formed)
+bounds-t-from : tie.Need-bounds-t-from
+bounds-t-from c = omega (arith, row_fits c.before.before.before.before.before.before.requires.0 c.before.before.before.before.before.before.args.q c.before.before.before.before.before.before.requires.1, terminals_le c.before.before.before.before.before.before.requires.0.shaped, (sized _ c.before.before.before.before.before.before.requires.0.sizes).terminals_are, (sized _ c.before.before.before.before.before.before.requires.0.sizes).productions_are, c.before.before.before.before.before.before.requires.0.shaped.terminals_are, c.before.before.before.before.before.before.requires.0.shaped.productions_are, nonterminals_of_is c.before.before.before.before.before.before.requires.0.shaped, (sized _ c.before.before.before.before.before.before.requires.0.sizes).nonterminals_are, c.before.before.before.before.before.before.well_formed)
 
-end-ok-requires : tie.Need-end-ok-requires
-end-ok-requires c κs = search rules
+end_ok-first-requires : tie.Need-end_ok-first-requires
+end_ok-first-requires c κs = search rules
 
-add-actions-ok : tie.Need-overflow-add-actions-ok
-add-actions-ok c = omega (arith, row_fits c.before.before.before.before.before.before.before.requires.0 c.before.before.before.before.before.before.before.args.q c.before.before.before.before.before.before.before.requires.1, terminals_le c.before.before.before.before.before.before.before.requires.0.shaped, (sized _ c.before.before.before.before.before.before.before.requires.0.sizes).terminals_are, (sized _ c.before.before.before.before.before.before.before.requires.0.sizes).productions_are, c.before.before.before.before.before.before.before.requires.0.shaped.terminals_are, c.before.before.before.before.before.before.before.requires.0.shaped.productions_are, nonterminals_of_is c.before.before.before.before.before.before.before.requires.0.shaped, (sized _ c.before.before.before.before.before.before.before.requires.0.sizes).nonterminals_are, c.before.before.before.before.before.before.before.well-formed)
+overflow_add-from-2 : tie.Need-overflow_add-from-2
+overflow_add-from-2 c = omega (arith, row_fits c.before.before.before.before.before.before.before.requires.0 c.before.before.before.before.before.before.before.args.q c.before.before.before.before.before.before.before.requires.1, terminals_le c.before.before.before.before.before.before.before.requires.0.shaped, (sized _ c.before.before.before.before.before.before.before.requires.0.sizes).terminals_are, (sized _ c.before.before.before.before.before.before.before.requires.0.sizes).productions_are, c.before.before.before.before.before.before.before.requires.0.shaped.terminals_are, c.before.before.before.before.before.before.before.requires.0.shaped.productions_are, nonterminals_of_is c.before.before.before.before.before.before.before.requires.0.shaped, (sized _ c.before.before.before.before.before.before.before.requires.0.sizes).nonterminals_are, c.before.before.before.before.before.before.before.well_formed)
 
-sub-actions-ok : tie.Need-overflow-sub-actions-ok
-sub-actions-ok c = omega (arith, row_fits c.before.before.before.before.before.before.before.before.requires.0 c.before.before.before.before.before.before.before.before.args.q c.before.before.before.before.before.before.before.before.requires.1, terminals_le c.before.before.before.before.before.before.before.before.requires.0.shaped, (sized _ c.before.before.before.before.before.before.before.before.requires.0.sizes).terminals_are, (sized _ c.before.before.before.before.before.before.before.before.requires.0.sizes).productions_are, c.before.before.before.before.before.before.before.before.requires.0.shaped.terminals_are, c.before.before.before.before.before.before.before.before.requires.0.shaped.productions_are, nonterminals_of_is c.before.before.before.before.before.before.before.before.requires.0.shaped, (sized _ c.before.before.before.before.before.before.before.before.requires.0.sizes).nonterminals_are, c.before.before.before.before.before.before.before.before.well-formed)
+overflow_sub-z : tie.Need-overflow_sub-z
+overflow_sub-z c = omega (arith, row_fits c.before.before.before.before.before.before.before.before.requires.0 c.before.before.before.before.before.before.before.before.args.q c.before.before.before.before.before.before.before.before.requires.1, terminals_le c.before.before.before.before.before.before.before.before.requires.0.shaped, (sized _ c.before.before.before.before.before.before.before.before.requires.0.sizes).terminals_are, (sized _ c.before.before.before.before.before.before.before.before.requires.0.sizes).productions_are, c.before.before.before.before.before.before.before.before.requires.0.shaped.terminals_are, c.before.before.before.before.before.before.before.before.requires.0.shaped.productions_are, nonterminals_of_is c.before.before.before.before.before.before.before.before.requires.0.shaped, (sized _ c.before.before.before.before.before.before.before.before.requires.0.sizes).nonterminals_are, c.before.before.before.before.before.before.before.before.well_formed)
 
-actions-ok-requires : tie.Need-actions-ok-requires
-actions-ok-requires c κs = omega (arith, row_fits c.before.before.before.before.before.before.before.before.requires.0 c.before.before.before.before.before.before.before.before.args.q c.before.before.before.before.before.before.before.before.requires.1, terminals_le c.before.before.before.before.before.before.before.before.requires.0.shaped, (sized _ c.before.before.before.before.before.before.before.before.requires.0.sizes).terminals_are, (sized _ c.before.before.before.before.before.before.before.before.requires.0.sizes).productions_are, c.before.before.before.before.before.before.before.before.requires.0.shaped.terminals_are, c.before.before.before.before.before.before.before.before.requires.0.shaped.productions_are, nonterminals_of_is c.before.before.before.before.before.before.before.before.requires.0.shaped, (sized _ c.before.before.before.before.before.before.before.before.requires.0.sizes).nonterminals_are, c.before.before.before.before.before.before.before.before.well-formed)
+actions_ok-actions-requires : tie.Need-actions_ok-actions-requires
+actions_ok-actions-requires c κs = omega (arith, row_fits c.before.before.before.before.before.before.before.before.requires.0 c.before.before.before.before.before.before.before.before.args.q c.before.before.before.before.before.before.before.before.requires.1, terminals_le c.before.before.before.before.before.before.before.before.requires.0.shaped, (sized _ c.before.before.before.before.before.before.before.before.requires.0.sizes).terminals_are, (sized _ c.before.before.before.before.before.before.before.before.requires.0.sizes).productions_are, c.before.before.before.before.before.before.before.before.requires.0.shaped.terminals_are, c.before.before.before.before.before.before.before.before.requires.0.shaped.productions_are, nonterminals_of_is c.before.before.before.before.before.before.before.before.requires.0.shaped, (sized _ c.before.before.before.before.before.before.before.before.requires.0.sizes).nonterminals_are, c.before.before.before.before.before.before.before.before.well_formed)
 
-add-states-ok : tie.Need-overflow-add-states-ok
-add-states-ok c = omega (arith, row_fits c.before.before.before.before.before.before.before.before.before.before.requires.0 c.before.before.before.before.before.before.before.before.before.before.args.q c.before.before.before.before.before.before.before.before.before.before.requires.1, terminals_le c.before.before.before.before.before.before.before.before.before.before.requires.0.shaped, (sized _ c.before.before.before.before.before.before.before.before.before.before.requires.0.sizes).terminals_are, (sized _ c.before.before.before.before.before.before.before.before.before.before.requires.0.sizes).productions_are, c.before.before.before.before.before.before.before.before.before.before.requires.0.shaped.terminals_are, c.before.before.before.before.before.before.before.before.before.before.requires.0.shaped.productions_are, nonterminals_of_is c.before.before.before.before.before.before.before.before.before.before.requires.0.shaped, (sized _ c.before.before.before.before.before.before.before.before.before.before.requires.0.sizes).nonterminals_are, c.before.before.before.before.before.before.before.before.before.before.well-formed)
+overflow_add-from-3 : tie.Need-overflow_add-from-3
+overflow_add-from-3 c = omega (arith, row_fits c.before.before.before.before.before.before.before.before.before.before.requires.0 c.before.before.before.before.before.before.before.before.before.before.args.q c.before.before.before.before.before.before.before.before.before.before.requires.1, terminals_le c.before.before.before.before.before.before.before.before.before.before.requires.0.shaped, (sized _ c.before.before.before.before.before.before.before.before.before.before.requires.0.sizes).terminals_are, (sized _ c.before.before.before.before.before.before.before.before.before.before.requires.0.sizes).productions_are, c.before.before.before.before.before.before.before.before.before.before.requires.0.shaped.terminals_are, c.before.before.before.before.before.before.before.before.before.before.requires.0.shaped.productions_are, nonterminals_of_is c.before.before.before.before.before.before.before.before.before.before.requires.0.shaped, (sized _ c.before.before.before.before.before.before.before.before.before.before.requires.0.sizes).nonterminals_are, c.before.before.before.before.before.before.before.before.before.before.well_formed)
 
-sub-states-ok : tie.Need-overflow-sub-states-ok
-sub-states-ok c = omega (arith, row_fits c.before.before.before.before.before.before.before.before.before.before.before.requires.0 c.before.before.before.before.before.before.before.before.before.before.before.args.q c.before.before.before.before.before.before.before.before.before.before.before.requires.1, terminals_le c.before.before.before.before.before.before.before.before.before.before.before.requires.0.shaped, (sized _ c.before.before.before.before.before.before.before.before.before.before.before.requires.0.sizes).terminals_are, (sized _ c.before.before.before.before.before.before.before.before.before.before.before.requires.0.sizes).productions_are, c.before.before.before.before.before.before.before.before.before.before.before.requires.0.shaped.terminals_are, c.before.before.before.before.before.before.before.before.before.before.before.requires.0.shaped.productions_are, nonterminals_of_is c.before.before.before.before.before.before.before.before.before.before.before.requires.0.shaped, (sized _ c.before.before.before.before.before.before.before.before.before.before.before.requires.0.sizes).nonterminals_are, c.before.before.before.before.before.before.before.before.before.before.before.well-formed)
+overflow_sub-z-2 : tie.Need-overflow_sub-z-2
+overflow_sub-z-2 c = omega (arith, row_fits c.before.before.before.before.before.before.before.before.before.before.before.requires.0 c.before.before.before.before.before.before.before.before.before.before.before.args.q c.before.before.before.before.before.before.before.before.before.before.before.requires.1, terminals_le c.before.before.before.before.before.before.before.before.before.before.before.requires.0.shaped, (sized _ c.before.before.before.before.before.before.before.before.before.before.before.requires.0.sizes).terminals_are, (sized _ c.before.before.before.before.before.before.before.before.before.before.before.requires.0.sizes).productions_are, c.before.before.before.before.before.before.before.before.before.before.before.requires.0.shaped.terminals_are, c.before.before.before.before.before.before.before.before.before.before.before.requires.0.shaped.productions_are, nonterminals_of_is c.before.before.before.before.before.before.before.before.before.before.before.requires.0.shaped, (sized _ c.before.before.before.before.before.before.before.before.before.before.before.requires.0.sizes).nonterminals_are, c.before.before.before.before.before.before.before.before.before.before.before.well_formed)
 
-states-ok-requires : tie.Need-states-ok-requires
-states-ok-requires c κs = omega (arith, row_fits c.before.before.before.before.before.before.before.before.before.before.before.requires.0 c.before.before.before.before.before.before.before.before.before.before.before.args.q c.before.before.before.before.before.before.before.before.before.before.before.requires.1, terminals_le c.before.before.before.before.before.before.before.before.before.before.before.requires.0.shaped, (sized _ c.before.before.before.before.before.before.before.before.before.before.before.requires.0.sizes).terminals_are, (sized _ c.before.before.before.before.before.before.before.before.before.before.before.requires.0.sizes).productions_are, c.before.before.before.before.before.before.before.before.before.before.before.requires.0.shaped.terminals_are, c.before.before.before.before.before.before.before.before.before.before.before.requires.0.shaped.productions_are, nonterminals_of_is c.before.before.before.before.before.before.before.before.before.before.before.requires.0.shaped, (sized _ c.before.before.before.before.before.before.before.before.before.before.before.requires.0.sizes).nonterminals_are, c.before.before.before.before.before.before.before.before.before.before.before.well-formed)
+states_ok-gotos-requires : tie.Need-states_ok-gotos-requires
+states_ok-gotos-requires c κs = omega (arith, row_fits c.before.before.before.before.before.before.before.before.before.before.before.requires.0 c.before.before.before.before.before.before.before.before.before.before.before.args.q c.before.before.before.before.before.before.before.before.before.before.before.requires.1, terminals_le c.before.before.before.before.before.before.before.before.before.before.before.requires.0.shaped, (sized _ c.before.before.before.before.before.before.before.before.before.before.before.requires.0.sizes).terminals_are, (sized _ c.before.before.before.before.before.before.before.before.before.before.before.requires.0.sizes).productions_are, c.before.before.before.before.before.before.before.before.before.before.before.requires.0.shaped.terminals_are, c.before.before.before.before.before.before.before.before.before.before.before.requires.0.shaped.productions_are, nonterminals_of_is c.before.before.before.before.before.before.before.before.before.before.before.requires.0.shaped, (sized _ c.before.before.before.before.before.before.before.before.before.before.before.requires.0.sizes).nonterminals_are, c.before.before.before.before.before.before.before.before.before.before.before.well_formed)
 
 both-requires : tie.Need-both-requires
 both-requires c κs = search rules
@@ -57,26 +57,26 @@ both-requires-2 : tie.Need-both-requires-2
 both-requires-2 c κs = search rules
 
 returns : tie.Need-returns
-returns c = c.both2.ensures ∙ ap (λ (x : Bool). c.before.before.before.before.before.before.before.end-ok.result && x) c.before.both.ensures ∙ row_parts c.before.before.before.before.before.before.before.before.before.before.before.before.before.before.requires.0 c.before.before.before.before.before.before.before.before.before.before.before.before.before.before.args.q refl refl c.before.before.before.before.before.before.before.end-ok.ensures c.before.before.before.before.before.actions-ok.ensures c.before.before.states-ok.ensures
+returns c = c.both-2.ensures ∙ ap (λ (x : Bool). c.before.before.before.before.before.before.before.end_ok-first.result && x) c.before.both.ensures ∙ row_parts c.before.before.before.before.before.before.before.before.before.before.before.before.before.before.requires.0 c.before.before.before.before.before.before.before.before.before.before.before.before.before.before.args.q refl refl c.before.before.before.before.before.before.before.end_ok-first.ensures c.before.before.before.before.before.actions_ok-actions.ensures c.before.before.states_ok-gotos.ensures
 
-pub row-ok-spec : {M : Type 1} → statement M
-row-ok-spec =
+pub row_ok_spec : {M : Type 1} → statement M
+row_ok_spec =
     tie.close
     (tie.spec
-    mul-from
-    add-from
-    cast-n
-    cast-e
-    add-e
-    mul-end-ok
-    shared-slice-read-end-ok
-    end-ok-requires
-    add-actions-ok
-    sub-actions-ok
-    actions-ok-requires
-    add-states-ok
-    sub-states-ok
-    states-ok-requires
+    overflow_mul-from
+    overflow_add-from
+    overflow_cast-n
+    overflow_cast-e
+    overflow_add-e
+    offset_bounds-t-from
+    bounds-t-from
+    end_ok-first-requires
+    overflow_add-from-2
+    overflow_sub-z
+    actions_ok-actions-requires
+    overflow_add-from-3
+    overflow_sub-z-2
+    states_ok-gotos-requires
     both-requires
     both-requires-2
     returns)

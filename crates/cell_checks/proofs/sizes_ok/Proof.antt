@@ -12,10 +12,10 @@ returns c =
     let b4 = c.before.before.before.before in
     let b6 = b4.before.before in
     let b7 = b6.before in
-    c.both3.ensures ∙ sizes_are b7.before.before.requires b7.between.ensures b6.between2.ensures b4.between3.ensures c.before.before.before.between4.ensures c.before.before.both.ensures c.before.both2.ensures
+    c.both-3.ensures ∙ sizes_are b7.before.before.requires b7.between-q.ensures b6.between-m.ensures b4.between-n.ensures c.before.before.before.between-p.ensures c.before.before.both.ensures c.before.both-2.ensures
 
-pub sizes-ok-spec : {M : Type 1} → statement M
-sizes-ok-spec =
+pub sizes_ok_spec : {M : Type 1} → statement M
+sizes_ok_spec =
     tie.close
     (tie.spec
     (λ c κs. search rules)

@@ -5,47 +5,47 @@ use Rattle.cells.proofs.AreaLaws.{Clearing, clearing_none, clearing_long, cleari
 use Rattle.cells.proofs.clear64.Statement.{statement}
 use Rattle.cells.proofs.clear64.Tie as tie
 
-abbrev invariant_loop : tie.invariant-loop
-invariant_loop t₀ a k i₀ t i = Clearing a k t₀ i t
+abbrev invariant-loop-i : tie.invariant-loop-i
+invariant-loop-i t₀ a k i₀ t i = Clearing a k t₀ i t
 
-abbrev decreases_loop : tie.decreases-loop
-decreases_loop t₀ a k i₀ t i = k - i
+abbrev decreases-loop-i : tie.decreases-loop-i
+decreases-loop-i t₀ a k i₀ t i = k - i
 
-loop_holds : tie.Need-loop-init invariant_loop decreases_loop
-loop_holds c = clearing_none _ _ _ c.requires.1 c.requires.0
+loop-i-init : tie.Need-loop-i-init invariant-loop-i decreases-loop-i
+loop-i-init c = clearing_none _ _ _ c.requires.1 c.requires.0
 
-mul-t : tie.Need-overflow-mul-t invariant_loop decreases_loop
-mul-t c = omega (arith, clearing_long _ _ _ c.before.before.requires.1 c.before.loop.invariant)
+offset_bounds-t-i : tie.Need-offset_bounds-t-i invariant-loop-i decreases-loop-i
+offset_bounds-t-i c = omega (arith, clearing_long _ _ _ c.before.before.requires.1 c.before.loop-i.invariant)
 
-slice-write-t : tie.Need-slice-write-t invariant_loop decreases_loop
-slice-write-t c = omega (arith, clearing_long _ _ _ c.before.before.requires.1 c.before.loop.invariant)
+bounds-t-i : tie.Need-bounds-t-i invariant-loop-i decreases-loop-i
+bounds-t-i c = omega (arith, clearing_long _ _ _ c.before.before.requires.1 c.before.loop-i.invariant)
 
-add_i : tie.Need-overflow-add-i invariant_loop decreases_loop
-add_i c = search rules
+overflow_add-i : tie.Need-overflow_add-i invariant-loop-i decreases-loop-i
+overflow_add-i c = search rules
 
-loop_less : tie.Need-loop-smaller invariant_loop decreases_loop
-loop_less c = search rules
+loop-i-smaller : tie.Need-loop-i-smaller invariant-loop-i decreases-loop-i
+loop-i-smaller c = search rules
 
-loop_again : tie.Need-loop-preserved invariant_loop decreases_loop
-loop_again c = clearing_more _ _ _ c.before.before.requires.1 c.loop-test.true c.before.loop.invariant
+loop-i-preserved : tie.Need-loop-i-preserved invariant-loop-i decreases-loop-i
+loop-i-preserved c = clearing_more _ _ _ c.before.before.requires.1 c.loop-i-test.true c.before.loop-i.invariant
 
-same_length : tie.Need-same-length invariant_loop decreases_loop
-same_length c = clearing_long _ _ _ c.before.before.requires.1 c.before.loop.invariant
+shape_of-t : tie.Need-shape_of-t invariant-loop-i decreases-loop-i
+shape_of-t c = clearing_long _ _ _ c.before.before.requires.1 c.before.loop-i.invariant
 
-returns : tie.Need-returns invariant_loop decreases_loop
-returns c = clearing_end _ _ _ c.before.before.requires.1 c.loop-test.false c.before.loop.invariant
+returns : tie.Need-returns invariant-loop-i decreases-loop-i
+returns c = clearing_end _ _ _ c.before.before.requires.1 c.loop-i-test.false c.before.loop-i.invariant
 
-pub clear64-spec : {M : Type 1} → statement M
-clear64-spec =
+pub clear64_spec : {M : Type 1} → statement M
+clear64_spec =
     tie.close
     (tie.spec
-    invariant_loop
-    decreases_loop
-    loop_holds
-    mul-t
-    slice-write-t
-    add_i
-    loop_less
-    loop_again
-    same_length
+    invariant-loop-i
+    decreases-loop-i
+    loop-i-init
+    offset_bounds-t-i
+    bounds-t-i
+    overflow_add-i
+    loop-i-smaller
+    loop-i-preserved
+    shape_of-t
     returns)

@@ -6,32 +6,32 @@ use Rattle.cells.proofs.AreaLaws.{headed}
 use Rattle.cells.proofs.header.Statement.{statement}
 use Rattle.cells.proofs.header.Tie as tie
 
-productions-requires : tie.Need-productions-requires
-productions-requires c κs = search rules
+productions-p-requires : tie.Need-productions-p-requires
+productions-p-requires c κs = search rules
 
-slice-write-t : tie.Need-slice-write-t
-slice-write-t c = search rules
+bounds-t-0 : tie.Need-bounds-t-0
+bounds-t-0 c = search rules
 
 terminals-requires : tie.Need-terminals-requires
 terminals-requires c κs = search rules
 
-slice-write-t-2 : tie.Need-slice-write-t-2
-slice-write-t-2 c = simp length-set (omega arith)
+bounds-t-1 : tie.Need-bounds-t-1
+bounds-t-1 c = simp length-set (omega arith)
 
 nonterminals-requires : tie.Need-nonterminals-requires
 nonterminals-requires c κs = search rules
 
-slice-write-t-3 : tie.Need-slice-write-t-3
-slice-write-t-3 c = simp length-set (omega arith)
+bounds-t-2 : tie.Need-bounds-t-2
+bounds-t-2 c = simp length-set (omega arith)
 
-slice-write-t-4 : tie.Need-slice-write-t-4
-slice-write-t-4 c = simp length-set (omega arith)
+bounds-t-3 : tie.Need-bounds-t-3
+bounds-t-3 c = simp length-set (omega arith)
 
 arrays-requires : tie.Need-arrays-requires
-arrays-requires c κs = (c.before.before.before.productions.ensures, simp length-set (omega (arith, c.before.before.before.productions.ensures)))
+arrays-requires c κs = (c.before.before.before.productions-p.ensures, simp length-set (omega (arith, c.before.before.before.productions-p.ensures)))
 
-same_length : tie.Need-same-length
-same_length c = c.before.before.arrays.ensures.long ∙ simp length-set
+shape_of-t : tie.Need-shape_of-t
+shape_of-t c = c.before.before.arrays.ensures.long ∙ simp length-set
 
 returns : tie.Need-returns
 returns c =
@@ -40,19 +40,19 @@ returns c =
     let b5 = b4.before in
     let b6 = b5.before in
     let b9 = b6.before.before.before in
-    headed _ _ _ _ _ _ _ b5.terminals.ensures b4.nonterminals.ensures b6.productions.ensures b9.requires b2.arrays.ensures
+    headed _ _ _ _ _ _ _ b5.terminals.ensures b4.nonterminals.ensures b6.productions-p.ensures b9.requires b2.arrays.ensures
 
-pub header-spec : {M : Type 1} → statement M
-header-spec =
+pub header_spec : {M : Type 1} → statement M
+header_spec =
     tie.close
     (tie.spec
-    productions-requires
-    slice-write-t
+    productions-p-requires
+    bounds-t-0
     terminals-requires
-    slice-write-t-2
+    bounds-t-1
     nonterminals-requires
-    slice-write-t-3
-    slice-write-t-4
+    bounds-t-2
+    bounds-t-3
     arrays-requires
-    same_length
+    shape_of-t
     returns)

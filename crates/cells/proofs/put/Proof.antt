@@ -7,55 +7,55 @@ use Rattle.cells.proofs.WordLaws.{Putting, putting_none, putting_fits, putting_m
 use Rattle.cells.proofs.put.Statement.{statement}
 use Rattle.cells.proofs.put.Tie as tie
 
-abbrev invariant_loop : tie.invariant-loop
-invariant_loop t₀ b word v left₀ t left = Putting b word v left t₀ t
+abbrev invariant-loop-left : tie.invariant-loop-left
+invariant-loop-left t₀ b word v left₀ t left = Putting b word v left t₀ t
 
-abbrev decreases_loop : tie.decreases-loop
-decreases_loop t₀ b word v left₀ t left = left
+abbrev decreases-loop-left : tie.decreases-loop-left
+decreases-loop-left t₀ b word v left₀ t left = left
 
-loop_holds : tie.Need-loop-init invariant_loop decreases_loop
-loop_holds c = putting_none _ _ _ _ (search rules)
+loop-left-init : tie.Need-loop-left-init invariant-loop-left decreases-loop-left
+loop-left-init c = putting_none _ _ _ _ (search rules)
 
-cast-m : tie.Need-overflow-cast-m invariant_loop decreases_loop
-cast-m c = omega (arith, trailing_le 64 c.before.loop.left)
+overflow_cast-m : tie.Need-overflow_cast-m invariant-loop-left decreases-loop-left
+overflow_cast-m c = omega (arith, trailing_le 64 c.before.loop-left.left)
 
-add-t : tie.Need-overflow-add-t invariant_loop decreases_loop
-add-t c = omega (arith, trailing_le 64 c.before.loop.left, c.before.loop.invariant.long)
+overflow_add-t : tie.Need-overflow_add-t invariant-loop-left decreases-loop-left
+overflow_add-t c = omega (arith, trailing_le 64 c.before.loop-left.left, c.before.loop-left.invariant.long)
 
-mul-t : tie.Need-overflow-mul-t invariant_loop decreases_loop
-mul-t c = omega (arith, putting_fits _ _ _ _ _ _ c.loop-test.true c.before.before.requires c.before.loop.invariant)
+offset_bounds-t-b : tie.Need-offset_bounds-t-b invariant-loop-left decreases-loop-left
+offset_bounds-t-b c = omega (arith, putting_fits _ _ _ _ _ _ c.loop-left-test.true c.before.before.requires c.before.loop-left.invariant)
 
-slice-write-t : tie.Need-slice-write-t invariant_loop decreases_loop
-slice-write-t c = omega (arith, putting_fits _ _ _ _ _ _ c.loop-test.true c.before.before.requires c.before.loop.invariant)
+bounds-t-b : tie.Need-bounds-t-b invariant-loop-left decreases-loop-left
+bounds-t-b c = omega (arith, putting_fits _ _ _ _ _ _ c.loop-left-test.true c.before.before.requires c.before.loop-left.invariant)
 
-sub-left : tie.Need-overflow-sub-left invariant_loop decreases_loop
-sub-left c = search rules
+overflow_sub-left : tie.Need-overflow_sub-left invariant-loop-left decreases-loop-left
+overflow_sub-left c = search rules
 
-loop_less : tie.Need-loop-smaller invariant_loop decreases_loop
-loop_less c = omega (arith, and_le_r c.before.loop.left (c.before.loop.left - 1))
+loop-left-smaller : tie.Need-loop-left-smaller invariant-loop-left decreases-loop-left
+loop-left-smaller c = omega (arith, and_le_r c.before.loop-left.left (c.before.loop-left.left - 1))
 
-loop_again : tie.Need-loop-preserved invariant_loop decreases_loop
-loop_again c = putting_more _ _ _ _ _ _ c.loop-test.true c.before.before.requires c.before.loop.invariant
+loop-left-preserved : tie.Need-loop-left-preserved invariant-loop-left decreases-loop-left
+loop-left-preserved c = putting_more _ _ _ _ _ _ c.loop-left-test.true c.before.before.requires c.before.loop-left.invariant
 
-same_length : tie.Need-same-length invariant_loop decreases_loop
-same_length c = c.before.loop.invariant.long
+shape_of-t : tie.Need-shape_of-t invariant-loop-left decreases-loop-left
+shape_of-t c = c.before.loop-left.invariant.long
 
-returns : tie.Need-returns invariant_loop decreases_loop
-returns c = putting_end _ _ _ _ _ _ c.loop-test.false c.before.loop.invariant
+returns : tie.Need-returns invariant-loop-left decreases-loop-left
+returns c = putting_end _ _ _ _ _ _ c.loop-left-test.false c.before.loop-left.invariant
 
 pub put_spec : {M : Type 1} → statement M
 put_spec =
     tie.close
     (tie.spec
-    invariant_loop
-    decreases_loop
-    loop_holds
-    cast-m
-    add-t
-    mul-t
-    slice-write-t
-    sub-left
-    loop_less
-    loop_again
-    same_length
+    invariant-loop-left
+    decreases-loop-left
+    loop-left-init
+    overflow_cast-m
+    overflow_add-t
+    offset_bounds-t-b
+    bounds-t-b
+    overflow_sub-left
+    loop-left-smaller
+    loop-left-preserved
+    shape_of-t
     returns)

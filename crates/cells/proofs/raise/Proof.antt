@@ -6,34 +6,34 @@ use Rattle.cells.proofs.AreaLaws.{raised_none, raised_down, raised_end}
 use Rattle.cells.proofs.raise.Statement.{statement}
 use Rattle.cells.proofs.raise.Tie as tie
 
-abbrev invariant_loop : tie.invariant-loop
-invariant_loop t₀ a b k i₀ t i = (a ≤ i) × (i ≤ b) × Raised i b k t₀ t
+abbrev invariant-loop-i : tie.invariant-loop-i
+invariant-loop-i t₀ a b k i₀ t i = (a ≤ i) × (i ≤ b) × Raised i b k t₀ t
 
-abbrev decreases_loop : tie.decreases-loop
-decreases_loop t₀ a b k i₀ t i = i - a
+abbrev decreases-loop-i : tie.decreases-loop-i
+decreases-loop-i t₀ a b k i₀ t i = i - a
 
-loop_holds : tie.Need-loop-init invariant_loop decreases_loop
-loop_holds c = (c.requires.0, omega arith, raised_none _ _ _)
+loop-i-init : tie.Need-loop-i-init invariant-loop-i decreases-loop-i
+loop-i-init c = (c.requires.0, omega arith, raised_none _ _ _)
 
-loop_again : tie.Need-loop-preserved invariant_loop decreases_loop
-loop_again c =
+loop-i-preserved : tie.Need-loop-i-preserved invariant-loop-i decreases-loop-i
+loop-i-preserved c =
     let b2 = c.before.before in
     let b3 = b2.before in
-    (omega arith, omega (arith, b2.loop.invariant.1), raised_down _ _ _ _ _ (omega arith) b2.loop.invariant.1 b3.requires.1 b2.loop.invariant.2)
+    (omega arith, omega (arith, b2.loop-i.invariant.1), raised_down _ _ _ _ _ (omega arith) b2.loop-i.invariant.1 b3.requires.1 b2.loop-i.invariant.2)
 
-same_length : tie.Need-same-length invariant_loop decreases_loop
-same_length c = c.before.loop.invariant.2.long
+shape_of-t : tie.Need-shape_of-t invariant-loop-i decreases-loop-i
+shape_of-t c = c.before.loop-i.invariant.2.long
 
-returns : tie.Need-returns invariant_loop decreases_loop
-returns c = raised_end _ _ _ _ _ _ c.before.loop.invariant.0 c.loop-test.false c.before.loop.invariant.2
+returns : tie.Need-returns invariant-loop-i decreases-loop-i
+returns c = raised_end _ _ _ _ _ _ c.before.loop-i.invariant.0 c.loop-i-test.false c.before.loop-i.invariant.2
 
-pub raise-spec : {M : Type 1} → statement M
-raise-spec =
+pub raise_spec : {M : Type 1} → statement M
+raise_spec =
     tie.close
     (tie.spec
-    invariant_loop
-    decreases_loop
-    loop_holds
+    invariant-loop-i
+    decreases-loop-i
+    loop-i-init
     (λ c. search rules)
     (λ c. search rules)
     (λ c. search rules)
@@ -41,6 +41,6 @@ raise-spec =
     (λ c. search rules)
     (λ c. search rules)
     (λ c. search rules)
-    loop_again
-    same_length
+    loop-i-preserved
+    shape_of-t
     returns)

@@ -13,95 +13,95 @@ use Rattle.grammar.proofs.CardLaws.{well_formed}
 use Rattle.closures.proofs.afters.Statement.{statement}
 use Rattle.closures.proofs.afters.Tie as tie
 
-abbrev invariant_loop : tie.invariant-loop
-invariant_loop c w s a₀ i₀ a i = Walk s i × Afters c s i a × (length a ≡ set_size)
+abbrev invariant-loop-i : tie.invariant-loop-i
+invariant-loop-i c w s a₀ i₀ a i = Walk s i × Afters c s i a × (length a ≡ set_size)
 
-abbrev decreases_loop : tie.decreases-loop
-decreases_loop c w s a₀ i₀ a i = item_limit - i
+abbrev decreases-loop-i : tie.decreases-loop-i
+decreases-loop-i c w s a₀ i₀ a i = item_limit - i
 
-next-requires : tie.Need-next-requires invariant_loop decreases_loop
-next-requires c κs = search rules
+next-i-requires : tie.Need-next-i-requires invariant-loop-i decreases-loop-i
+next-i-requires c κs = search rules
 
-loop_holds : tie.Need-loop-init invariant_loop decreases_loop
-loop_holds c =
-    let next-call = c.next in
+loop-i-init : tie.Need-loop-i-init invariant-loop-i decreases-loop-i
+loop-i-init c =
+    let next-call = c.next-i in
     (walk_next _ _ _ next-call.ensures, afters_next _ _ _ _ _ (afters_start _ _) next-call.ensures, search rules)
 
-mul-wide32 : tie.Need-overflow-mul-wide32 invariant_loop decreases_loop
-mul-wide32 c = omega arith
+offset_bounds-w-i : tie.Need-offset_bounds-w-i invariant-loop-i decreases-loop-i
+offset_bounds-w-i c = omega arith
 
-shared-slice-read-wide32 : tie.Need-shared-slice-read-wide32 invariant_loop decreases_loop
-shared-slice-read-wide32 c = omega (arith, c.before.before.before.before.before.before.requires.1)
+bounds-w-i : tie.Need-bounds-w-i invariant-loop-i decreases-loop-i
+bounds-w-i c = omega (arith, c.before.before.before.before.before.before.requires.1)
 
-wide32-requires : tie.Need-wide32-requires invariant_loop decreases_loop
-wide32-requires c κs = search rules
+wide32-x-requires : tie.Need-wide32-x-requires invariant-loop-i decreases-loop-i
+wide32-x-requires c κs = search rules
 
 -- the symbol after the dot, one of at most 124
-symbol_is : (c : tie.After-wide32 invariant_loop decreases_loop) → c.wide32.result ≡ after_of c.before.before.before.before.before.before.before.args.c.now c.before.before.before.loop.i
-symbol_is c = c.wide32.ensures ∙ c.before.before.before.before.before.before.before.requires.2.filled _ c.before.before.loop-test.true
+symbol_is : (c : tie.After-wide32-x invariant-loop-i decreases-loop-i) → c.wide32-x.result ≡ after_of c.before.before.before.before.before.before.before.args.c.now c.before.before.before.loop-i.i
+symbol_is c = c.wide32-x.ensures ∙ c.before.before.before.before.before.before.before.requires.2.filled _ c.before.before.loop-i-test.true
 
-symbol_small : (c : tie.After-wide32 invariant_loop decreases_loop) → c.wide32.result < 124
+symbol_small : (c : tie.After-wide32-x invariant-loop-i decreases-loop-i) → c.wide32-x.result < 124
 symbol_small c =
     let args = c.before.before.before.before.before.before.before.args in
     let wf = well_formed args.c.now c.before.before.before.before.before.before.before.requires.0 in
-    omega (arith, symbol_is c, after_most args.c.now wf c.before.before.before.loop.i, wf.limits.terminals_to, wf.limits.nonterminals_to)
+    omega (arith, symbol_is c, after_most args.c.now wf c.before.before.before.loop-i.i, wf.limits.terminals_to, wf.limits.nonterminals_to)
 
-mul-a : tie.Need-overflow-mul-a invariant_loop decreases_loop
-mul-a c = omega (arith, symbol_small c)
+offset_bounds-a-x : tie.Need-offset_bounds-a-x invariant-loop-i decreases-loop-i
+offset_bounds-a-x c = omega (arith, symbol_small c)
 
-array-read-a : tie.Need-array-read-a invariant_loop decreases_loop
-array-read-a c = omega (arith, symbol_small c, c.before.before.before.loop.invariant.2)
+bounds-a-x : tie.Need-bounds-a-x invariant-loop-i decreases-loop-i
+bounds-a-x c = omega (arith, symbol_small c, c.before.before.before.loop-i.invariant.2)
 
-shl-a : tie.Need-overflow-shl-a invariant_loop decreases_loop
-shl-a c = omega arith
+overflow_shl-a : tie.Need-overflow_shl-a invariant-loop-i decreases-loop-i
+overflow_shl-a c = omega arith
 
-mul-a-2 : tie.Need-overflow-mul-a-2 invariant_loop decreases_loop
-mul-a-2 c = omega (arith, symbol_small c)
+offset_bounds-a-x-in-loop-i : tie.Need-offset_bounds-a-x-in-loop-i invariant-loop-i decreases-loop-i
+offset_bounds-a-x-in-loop-i c = omega (arith, symbol_small c)
 
-array-write-a : tie.Need-array-write-a invariant_loop decreases_loop
-array-write-a c = omega (arith, symbol_small c, c.before.before.before.loop.invariant.2)
+bounds-a-x-in-loop-i : tie.Need-bounds-a-x-in-loop-i invariant-loop-i decreases-loop-i
+bounds-a-x-in-loop-i c = omega (arith, symbol_small c, c.before.before.before.loop-i.invariant.2)
 
-add-next : tie.Need-overflow-add-next invariant_loop decreases_loop
-add-next c = omega arith
+overflow_add-i : tie.Need-overflow_add-i invariant-loop-i decreases-loop-i
+overflow_add-i c = omega arith
 
-next-requires-2 : tie.Need-next-requires-2 invariant_loop decreases_loop
-next-requires-2 c κs = omega arith
+next-i-requires-in-loop-i : tie.Need-next-i-requires-in-loop-i invariant-loop-i decreases-loop-i
+next-i-requires-in-loop-i c κs = omega arith
 
-loop_less : tie.Need-loop-smaller invariant_loop decreases_loop
-loop_less c = omega (arith, c.next2.ensures.least)
+loop-i-smaller : tie.Need-loop-i-smaller invariant-loop-i decreases-loop-i
+loop-i-smaller c = omega (arith, c.next-i-in-loop-i.ensures.least)
 
-loop_again : tie.Need-loop-preserved invariant_loop decreases_loop
-loop_again c =
-    let loop = c.before.before.before.before.loop in
-    let loop-test = c.before.before.before.loop-test in
-    let next2-call = c.next2 in
-    let put = put_of loop.a c.before.wide32.result (omega (arith, symbol_small c.before, loop.invariant.2)) in
+loop-i-preserved : tie.Need-loop-i-preserved invariant-loop-i decreases-loop-i
+loop-i-preserved c =
+    let loop = c.before.before.before.before.loop-i in
+    let loop-test = c.before.before.before.loop-i-test in
+    let next2-call = c.next-i-in-loop-i in
+    let put = put_of loop.a c.before.wide32-x.result (omega (arith, symbol_small c.before, loop.invariant.2)) in
     (walk_next _ _ _ next2-call.ensures, afters_next _ _ _ _ _ (afters_more _ _ _ _ _ _ loop.invariant.1 (loop.invariant.0.here loop-test.true) (symbol_is c.before) put) next2-call.ensures, simp length-set loop.invariant.2)
 
-returns : tie.Need-returns invariant_loop decreases_loop
+returns : tie.Need-returns invariant-loop-i decreases-loop-i
 returns c =
-    let loop = c.before.loop in
-    let e : loop.i ≡ item_limit = omega (arith, c.loop-test.false, loop.invariant.0.most) in
+    let loop = c.before.loop-i in
+    let e : loop.i ≡ item_limit = omega (arith, c.loop-i-test.false, loop.invariant.0.most) in
     rw e at loop.invariant.1
 
-pub afters-spec : {M : Type 1} → statement M
-afters-spec =
+pub afters_spec : {M : Type 1} → statement M
+afters_spec =
     tie.close
     (tie.spec
-    invariant_loop
-    decreases_loop
-    next-requires
-    loop_holds
-    mul-wide32
-    shared-slice-read-wide32
-    wide32-requires
-    mul-a
-    array-read-a
-    shl-a
-    mul-a-2
-    array-write-a
-    add-next
-    next-requires-2
-    loop_less
-    loop_again
+    invariant-loop-i
+    decreases-loop-i
+    next-i-requires
+    loop-i-init
+    offset_bounds-w-i
+    bounds-w-i
+    wide32-x-requires
+    offset_bounds-a-x
+    bounds-a-x
+    overflow_shl-a
+    offset_bounds-a-x-in-loop-i
+    bounds-a-x-in-loop-i
+    overflow_add-i
+    next-i-requires-in-loop-i
+    loop-i-smaller
+    loop-i-preserved
     returns)

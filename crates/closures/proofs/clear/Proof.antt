@@ -10,48 +10,48 @@ use Rattle.closures.specs.Areas.{Kept, Filled}
 use Rattle.closures.proofs.clear.Statement.{statement}
 use Rattle.closures.proofs.clear.Tie as tie
 
-abbrev invariant_loop : tie.invariant-loop
-invariant_loop c w₀ n i₀ w i = Filled c w i × (n ≤ i) × (i ≤ item_limit) × (length w ≡ length w₀) × Kept w₀ item_limit w
+abbrev invariant-loop-i : tie.invariant-loop-i
+invariant-loop-i c w₀ n i₀ w i = Filled c w i × (n ≤ i) × (i ≤ item_limit) × (length w ≡ length w₀) × Kept w₀ item_limit w
 
-abbrev decreases_loop : tie.decreases-loop
-decreases_loop c w₀ n i₀ w i = item_limit - i
+abbrev decreases-loop-i : tie.decreases-loop-i
+decreases-loop-i c w₀ n i₀ w i = item_limit - i
 
-loop_holds : tie.Need-loop-init invariant_loop decreases_loop
-loop_holds c =
+loop-i-init : tie.Need-loop-i-init invariant-loop-i decreases-loop-i
+loop-i-init c =
     let pre = c.requires in
     (pre.3, omega arith, pre.1, refl, kept_same _ _)
 
-mul-w : tie.Need-overflow-mul-w invariant_loop decreases_loop
-mul-w c = omega arith
+offset_bounds-w-i : tie.Need-offset_bounds-w-i invariant-loop-i decreases-loop-i
+offset_bounds-w-i c = omega arith
 
-slice-write-w : tie.Need-slice-write-w invariant_loop decreases_loop
-slice-write-w c = omega arith
+bounds-w-i : tie.Need-bounds-w-i invariant-loop-i decreases-loop-i
+bounds-w-i c = omega arith
 
-add_i : tie.Need-overflow-add-i invariant_loop decreases_loop
-add_i c = omega arith
+overflow_add-i : tie.Need-overflow_add-i invariant-loop-i decreases-loop-i
+overflow_add-i c = omega arith
 
-loop_less : tie.Need-loop-smaller invariant_loop decreases_loop
-loop_less c = omega arith
+loop-i-smaller : tie.Need-loop-i-smaller invariant-loop-i decreases-loop-i
+loop-i-smaller c = omega arith
 
-loop_again : tie.Need-loop-preserved invariant_loop decreases_loop
-loop_again c =
-    let loop = c.before.loop in
+loop-i-preserved : tie.Need-loop-i-preserved invariant-loop-i decreases-loop-i
+loop-i-preserved c =
+    let loop = c.before.loop-i in
     let args = c.before.before.args in (
       filled_more _ _ _ _ loop.invariant.0 (omega arith) (sym (after_high args.c.now loop.i (omega arith))),
       omega arith,
       omega arith,
       simp length-set loop.invariant.3,
-      kept_set _ _ _ _ _ loop.invariant.4 c.loop-test.true,
+      kept_set _ _ _ _ _ loop.invariant.4 c.loop-i-test.true,
     )
 
-same_length : tie.Need-same-length invariant_loop decreases_loop
-same_length c =
-    let loop = c.before.loop in
+shape_of-w : tie.Need-shape_of-w invariant-loop-i decreases-loop-i
+shape_of-w c =
+    let loop = c.before.loop-i in
     loop.invariant.3
 
-returns : tie.Need-returns invariant_loop decreases_loop
+returns : tie.Need-returns invariant-loop-i decreases-loop-i
 returns c =
-    let loop = c.before.loop in
+    let loop = c.before.loop-i in
     let e : loop.i ≡ item_limit = omega arith in
     (rw e at loop.invariant.0, loop.invariant.4)
 
@@ -59,13 +59,13 @@ pub clear_spec : {M : Type 1} → statement M
 clear_spec =
     tie.close
     (tie.spec
-    invariant_loop
-    decreases_loop
-    loop_holds
-    mul-w
-    slice-write-w
-    add_i
-    loop_less
-    loop_again
-    same_length
+    invariant-loop-i
+    decreases-loop-i
+    loop-i-init
+    offset_bounds-w-i
+    bounds-w-i
+    overflow_add-i
+    loop-i-smaller
+    loop-i-preserved
+    shape_of-w
     returns)

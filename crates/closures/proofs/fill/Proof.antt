@@ -16,81 +16,81 @@ use Rattle.grammar.specs.Card.{start_of}
 use Rattle.closures.proofs.fill.Statement.{statement}
 use Rattle.closures.proofs.fill.Tie as tie
 
-abbrev invariant_loop : tie.invariant-loop
-invariant_loop c w₀ p s₀ r₀ w s r = Filled c w (first_of c r) × (s ≡ start_of c r) × (r ≤ p) × (item_limit ≤ length w) × (length w ≡ length w₀) × Kept w₀ item_limit w
+abbrev invariant-loop-r : tie.invariant-loop-r
+invariant-loop-r c w₀ p s₀ r₀ w s r = Filled c w (first_of c r) × (s ≡ start_of c r) × (r ≤ p) × (item_limit ≤ length w) × (length w ≡ length w₀) × Kept w₀ item_limit w
 
-abbrev decreases_loop : tie.decreases-loop
-decreases_loop c w₀ p s₀ r₀ w s r = p - r
+abbrev decreases-loop-r : tie.decreases-loop-r
+decreases-loop-r c w₀ p s₀ r₀ w s r = p - r
 
-productions-requires : tie.Need-productions-requires invariant_loop decreases_loop
-productions-requires c κs = search rules
+productions-p-requires : tie.Need-productions-p-requires invariant-loop-r decreases-loop-r
+productions-p-requires c κs = search rules
 
-loop_holds : tie.Need-loop-init invariant_loop decreases_loop
+loop-r-init : tie.Need-loop-r-init invariant-loop-r decreases-loop-r
 unfolding first_of start_of
-loop_holds c =
+loop-r-init c =
     let pre = c.before.before.before.requires in
     (record { filled = λ i h. absurd (not-suc-le-zero h) }, refl, zero-le, pre.1, refl, kept_same _ _)
 
-length-requires : tie.Need-length-requires invariant_loop decreases_loop
-length-requires c κs = search rules
+length-n-requires : tie.Need-length-n-requires invariant-loop-r decreases-loop-r
+length-n-requires c κs = search rules
 
-wide32-requires : tie.Need-wide32-requires invariant_loop decreases_loop
+wide32-requires : tie.Need-wide32-requires invariant-loop-r decreases-loop-r
 wide32-requires c κs = search rules
 
-wide_requires : tie.Need-wide-requires invariant_loop decreases_loop
-wide_requires c κs = search rules
+wide-requires : tie.Need-wide-requires invariant-loop-r decreases-loop-r
+wide-requires c κs = search rules
 
-add-f : tie.Need-overflow-add-f invariant_loop decreases_loop
-add-f c =
+overflow_add-f : tie.Need-overflow_add-f invariant-loop-r decreases-loop-r
+overflow_add-f c =
     let args = c.before.before.before.before.before.before.before.before.args in
     let wf = well_formed args.c.now c.before.before.before.before.before.before.before.before.requires.0 in
-    let loop = c.before.before.before.before.loop in
-    let productions-call = c.before.before.before.before.before.productions in
+    let loop = c.before.before.before.before.loop-r in
+    let productions-call = c.before.before.before.before.before.productions-p in
     let wide-call = c.wide in
     let wide32-call = c.before.wide32 in
     let b = bounds args.c.now wf loop.r (omega (arith, productions-call.ensures)) in
     omega (arith, wide-call.ensures, wide32-call.ensures, loop.invariant.1)
 
-fill-production-requires : tie.Need-fill-production-requires invariant_loop decreases_loop
+fill_production-requires : tie.Need-fill_production-requires invariant-loop-r decreases-loop-r
 unfolding first_of
-fill-production-requires c κs =
+fill_production-requires c κs =
     let pre = c.before.before.before.before.before.before.before.before.before.requires in
-    let loop-test = c.before.before.before.before.loop-test in
-    let productions-call = c.before.before.before.before.before.before.productions in
-    let length-call = c.before.before.before.length in
-    let loop = c.before.before.before.before.before.loop in
+    let loop-test = c.before.before.before.before.loop-r-test in
+    let productions-call = c.before.before.before.before.before.before.productions-p in
+    let length-call = c.before.before.before.length-n in
+    let loop = c.before.before.before.before.before.loop-r in
     let wide-call = c.before.wide in
     let wide32-call = c.before.before.wide32 in
     (pre.0, omega (arith, loop-test.true, productions-call.ensures), length-call.ensures, loop.invariant.1, rw (wide-call.ensures, wide32-call.ensures, loop.invariant.1), loop.invariant.3, rw (wide-call.ensures, wide32-call.ensures, loop.invariant.1) loop.invariant.0)
 
-wider-requires : tie.Need-wider-requires invariant_loop decreases_loop
-wider-requires c κs = search rules
+wider-s-requires : tie.Need-wider-s-requires invariant-loop-r decreases-loop-r
+wider-s-requires c κs = search rules
 
-add-s : tie.Need-overflow-add-s invariant_loop decreases_loop
-add-s c =
+overflow_add-s : tie.Need-overflow_add-s invariant-loop-r decreases-loop-r
+overflow_add-s c =
     let args = c.before.before.before.before.before.before.before.before.before.before.before.before.before.args in
     let wf = well_formed args.c.now c.before.before.before.before.before.before.before.before.before.before.before.before.before.requires.0 in
-    let loop = c.before.before.before.before.before.before.before.before.before.loop in
-    let loop-test = c.before.before.before.before.before.before.before.before.loop-test in
-    let productions-call = c.before.before.before.before.before.before.before.before.before.before.productions in
-    let wider-call = c.wider in
-    let length-call = c.before.before.before.before.before.before.before.length in
+    let loop = c.before.before.before.before.before.before.before.before.before.loop-r in
+    let loop-test = c.before.before.before.before.before.before.before.before.loop-r-test in
+    let productions-call = c.before.before.before.before.before.before.before.before.before.before.productions-p in
+    let wider-call = c.wider-s in
+    let length-call = c.before.before.before.before.before.before.before.length-n in
     let b = bounds args.c.now wf loop.r (omega (arith, loop-test.true, productions-call.ensures)) in
     omega (arith, wider-call.ensures, length-call.ensures, loop.invariant.1)
 
-add_r : tie.Need-overflow-add-r invariant_loop decreases_loop
-add_r c = omega arith
+overflow_add-r : tie.Need-overflow_add-r invariant-loop-r decreases-loop-r
+overflow_add-r c = omega arith
 
-loop_less : tie.Need-loop-smaller invariant_loop decreases_loop
-loop_less c = omega arith
+loop-r-smaller : tie.Need-loop-r-smaller invariant-loop-r decreases-loop-r
+loop-r-smaller c = omega arith
 
-loop_again : tie.Need-loop-preserved invariant_loop decreases_loop
+loop-r-preserved : tie.Need-loop-r-preserved invariant-loop-r decreases-loop-r
 unfolding start_of
-loop_again c =
-    let fill-production-call = c.before.before.before.fill-production in
-    let wider-call = c.wider in
-    let length-call = c.before.before.before.before.before.before.before.length in
-    let loop = c.before.before.before.before.before.before.before.before.before.loop in (
+loop-r-preserved c =
+    let fill-production-call = c.before.before.before.fill_production in
+    let wider-call = c.wider-s in
+    let length-call = c.before.before.before.before.before.before.before.length-n in
+    let loop = c.before.before.before.before.before.before.before.before.before.loop-r in (
       rw add-one fill-production-call.ensures.0,
       rw (add-one, wider-call.ensures, length-call.ensures, loop.invariant.1),
       omega arith,
@@ -99,83 +99,83 @@ loop_again c =
       kept_then loop.invariant.5 fill-production-call.ensures.1 (le_refl item_limit),
     )
 
-wide32-requires-2 : tie.Need-wide32-requires-2 invariant_loop decreases_loop
+wide32-requires-2 : tie.Need-wide32-requires-2 invariant-loop-r decreases-loop-r
 wide32-requires-2 c κs = search rules
 
-wide-requires-2 : tie.Need-wide-requires-2 invariant_loop decreases_loop
+wide-requires-2 : tie.Need-wide-requires-2 invariant-loop-r decreases-loop-r
 wide-requires-2 c κs = search rules
 
-add-f-2 : tie.Need-overflow-add-f-2 invariant_loop decreases_loop
-add-f-2 c =
+overflow_add-f-2 : tie.Need-overflow_add-f-2 invariant-loop-r decreases-loop-r
+overflow_add-f-2 c =
     let args = c.before.before.before.before.before.before.before.args in
     let wf = well_formed args.c.now c.before.before.before.before.before.before.before.requires.0 in
-    let loop = c.before.before.before.loop in
-    let productions-call = c.before.before.before.before.productions in
-    let wide322-call = c.before.wide322 in
-    let wide2-call = c.wide2 in
+    let loop = c.before.before.before.loop-r in
+    let productions-call = c.before.before.before.before.productions-p in
+    let wide322-call = c.before.wide32-2 in
+    let wide2-call = c.wide-2 in
     let n : loop.r ≡ productions-call.result = omega (arith, loop.invariant.2) in
     let s : wide322-call.result + wide2-call.result ≡ loop.s + productions-call.result = omega (arith, wide322-call.ensures, wide2-call.ensures) in
     let f = added_first args.c.now loop.r productions-call.result loop.s (wide322-call.result + wide2-call.result) wf productions-call.ensures n loop.invariant.1 s in
     let l : wide322-call.result + wide2-call.result ≤ 640 = f.1 in
     omega arith
 
-terminals-requires : tie.Need-terminals-requires invariant_loop decreases_loop
+terminals-requires : tie.Need-terminals-requires invariant-loop-r decreases-loop-r
 terminals-requires c κs = search rules
 
-wider-requires-2 : tie.Need-wider-requires-2 invariant_loop decreases_loop
-wider-requires-2 c κs = search rules
+wider-requires : tie.Need-wider-requires invariant-loop-r decreases-loop-r
+wider-requires c κs = search rules
 
-mul-w : tie.Need-overflow-mul-w invariant_loop decreases_loop
-mul-w c =
+offset_bounds-w-f : tie.Need-offset_bounds-w-f invariant-loop-r decreases-loop-r
+offset_bounds-w-f c =
     let args = c.before.before.before.before.before.before.before.before.before.args in
     let wf = well_formed args.c.now c.before.before.before.before.before.before.before.before.before.requires.0 in
-    let loop = c.before.before.before.before.before.loop in
-    let productions-call = c.before.before.before.before.before.before.productions in
-    let wide322-call = c.before.before.before.wide322 in
-    let wide2-call = c.before.before.wide2 in
+    let loop = c.before.before.before.before.before.loop-r in
+    let productions-call = c.before.before.before.before.before.before.productions-p in
+    let wide322-call = c.before.before.before.wide32-2 in
+    let wide2-call = c.before.before.wide-2 in
     let n : loop.r ≡ productions-call.result = omega (arith, loop.invariant.2) in
     let s : wide322-call.result + wide2-call.result ≡ loop.s + productions-call.result = omega (arith, wide322-call.ensures, wide2-call.ensures) in
     let f = added_first args.c.now loop.r productions-call.result loop.s (wide322-call.result + wide2-call.result) wf productions-call.ensures n loop.invariant.1 s in
     let l : wide322-call.result + wide2-call.result ≤ 640 = f.1 in
     omega arith
 
-slice-write-w : tie.Need-slice-write-w invariant_loop decreases_loop
-slice-write-w c =
+bounds-w-f : tie.Need-bounds-w-f invariant-loop-r decreases-loop-r
+bounds-w-f c =
     let args = c.before.before.before.before.before.before.before.before.before.args in
     let wf = well_formed args.c.now c.before.before.before.before.before.before.before.before.before.requires.0 in
-    let loop = c.before.before.before.before.before.loop in
-    let productions-call = c.before.before.before.before.before.before.productions in
-    let wide322-call = c.before.before.before.wide322 in
-    let wide2-call = c.before.before.wide2 in
+    let loop = c.before.before.before.before.before.loop-r in
+    let productions-call = c.before.before.before.before.before.before.productions-p in
+    let wide322-call = c.before.before.before.wide32-2 in
+    let wide2-call = c.before.before.wide-2 in
     let n : loop.r ≡ productions-call.result = omega (arith, loop.invariant.2) in
     let s : wide322-call.result + wide2-call.result ≡ loop.s + productions-call.result = omega (arith, wide322-call.ensures, wide2-call.ensures) in
     let f = added_first args.c.now loop.r productions-call.result loop.s (wide322-call.result + wide2-call.result) wf productions-call.ensures n loop.invariant.1 s in
     let l : wide322-call.result + wide2-call.result ≤ 640 = f.1 in
     omega (arith, loop.invariant.3)
 
-add-clear : tie.Need-overflow-add-clear invariant_loop decreases_loop
-add-clear c =
+overflow_add-f-3 : tie.Need-overflow_add-f-3 invariant-loop-r decreases-loop-r
+overflow_add-f-3 c =
     let args = c.before.before.before.before.before.before.before.before.before.before.args in
     let wf = well_formed args.c.now c.before.before.before.before.before.before.before.before.before.before.requires.0 in
-    let loop = c.before.before.before.before.before.before.loop in
-    let productions-call = c.before.before.before.before.before.before.before.productions in
-    let wide322-call = c.before.before.before.before.wide322 in
-    let wide2-call = c.before.before.before.wide2 in
+    let loop = c.before.before.before.before.before.before.loop-r in
+    let productions-call = c.before.before.before.before.before.before.before.productions-p in
+    let wide322-call = c.before.before.before.before.wide32-2 in
+    let wide2-call = c.before.before.before.wide-2 in
     let n : loop.r ≡ productions-call.result = omega (arith, loop.invariant.2) in
     let s : wide322-call.result + wide2-call.result ≡ loop.s + productions-call.result = omega (arith, wide322-call.ensures, wide2-call.ensures) in
     let f = added_first args.c.now loop.r productions-call.result loop.s (wide322-call.result + wide2-call.result) wf productions-call.ensures n loop.invariant.1 s in
     let l : wide322-call.result + wide2-call.result ≤ 640 = f.1 in
     omega arith
 
-clear-requires : tie.Need-clear-requires invariant_loop decreases_loop
+clear-requires : tie.Need-clear-requires invariant-loop-r decreases-loop-r
 clear-requires c κs =
     let args = c.before.before.before.before.before.before.before.before.before.before.args in
     let wf = well_formed args.c.now c.before.before.before.before.before.before.before.before.before.before.requires.0 in
-    let loop = c.before.before.before.before.before.before.loop in
-    let productions-call = c.before.before.before.before.before.before.before.productions in
-    let wide322-call = c.before.before.before.before.wide322 in
-    let wide2-call = c.before.before.before.wide2 in
-    let wider2-call = c.before.wider2 in
+    let loop = c.before.before.before.before.before.before.loop-r in
+    let productions-call = c.before.before.before.before.before.before.before.productions-p in
+    let wide322-call = c.before.before.before.before.wide32-2 in
+    let wide2-call = c.before.before.before.wide-2 in
+    let wider2-call = c.before.wider in
     let terminals-call = c.before.before.terminals in
     let n : loop.r ≡ productions-call.result = omega (arith, loop.invariant.2) in
     let s : wide322-call.result + wide2-call.result ≡ loop.s + productions-call.result = omega (arith, wide322-call.ensures, wide2-call.ensures) in
@@ -183,20 +183,20 @@ clear-requires c κs =
     let l : wide322-call.result + wide2-call.result ≤ 640 = f.1 in
     filled_last _ _ _ _ _ _ _ wf productions-call.ensures n loop.invariant.1 s (wider2-call.ensures ∙ terminals-call.ensures) loop.invariant.3 loop.invariant.0
 
-same_length : tie.Need-same-length invariant_loop decreases_loop
-same_length c =
+shape_of-w : tie.Need-shape_of-w invariant-loop-r decreases-loop-r
+shape_of-w c =
     let clear-call = c.before.before.clear in
-    let loop = c.before.before.before.before.before.before.before.before.before.loop in
-    clear-call.auto.1.0 ∙ simp length-set loop.invariant.4
+    let loop = c.before.before.before.before.before.before.before.before.before.loop-r in
+    clear-call.auto.w ∙ simp length-set loop.invariant.4
 
-returns : tie.Need-returns invariant_loop decreases_loop
+returns : tie.Need-returns invariant-loop-r decreases-loop-r
 returns c =
     let args = c.before.before.before.before.before.before.before.before.before.before.before.before.before.args in
     let wf = well_formed args.c.now c.before.before.before.before.before.before.before.before.before.before.before.before.before.requires.0 in
-    let loop = c.before.before.before.before.before.before.before.before.before.loop in
-    let productions-call = c.before.before.before.before.before.before.before.before.before.before.productions in
-    let wide322-call = c.before.before.before.before.before.before.before.wide322 in
-    let wide2-call = c.before.before.before.before.before.before.wide2 in
+    let loop = c.before.before.before.before.before.before.before.before.before.loop-r in
+    let productions-call = c.before.before.before.before.before.before.before.before.before.before.productions-p in
+    let wide322-call = c.before.before.before.before.before.before.before.wide32-2 in
+    let wide2-call = c.before.before.before.before.before.before.wide-2 in
     let clear-call = c.before.before.clear in
     let n : loop.r ≡ productions-call.result = omega (arith, loop.invariant.2) in
     let s : wide322-call.result + wide2-call.result ≡ loop.s + productions-call.result = omega (arith, wide322-call.ensures, wide2-call.ensures) in
@@ -208,28 +208,28 @@ pub fill_spec : {M : Type 1} → statement M
 fill_spec =
     tie.close
     (tie.spec
-    invariant_loop
-    decreases_loop
-    productions-requires
-    loop_holds
-    length-requires
+    invariant-loop-r
+    decreases-loop-r
+    productions-p-requires
+    loop-r-init
+    length-n-requires
     wide32-requires
-    wide_requires
-    add-f
-    fill-production-requires
-    wider-requires
-    add-s
-    add_r
-    loop_less
-    loop_again
+    wide-requires
+    overflow_add-f
+    fill_production-requires
+    wider-s-requires
+    overflow_add-s
+    overflow_add-r
+    loop-r-smaller
+    loop-r-preserved
     wide32-requires-2
     wide-requires-2
-    add-f-2
+    overflow_add-f-2
     terminals-requires
-    wider-requires-2
-    mul-w
-    slice-write-w
-    add-clear
+    wider-requires
+    offset_bounds-w-f
+    bounds-w-f
+    overflow_add-f-3
     clear-requires
-    same_length
+    shape_of-w
     returns)

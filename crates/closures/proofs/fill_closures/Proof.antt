@@ -13,140 +13,140 @@ use Rattle.sets.proofs.BitLaws.{one_shl}
 use Rattle.closures.proofs.fill_closures.Statement.{statement}
 use Rattle.closures.proofs.fill_closures.Tie as tie
 
-abbrev invariant_loop : tie.invariant-loop
-invariant_loop c w z₀ n b j₀ z j = Closures c z j × (j ≤ n) × (length z ≡ length z₀) × Kept z₀ (masks_at * set_size) z
+abbrev invariant-loop-j : tie.invariant-loop-j
+invariant-loop-j c w z₀ n b j₀ z j = Closures c z j × (j ≤ n) × (length z ≡ length z₀) × Kept z₀ (masks_at * set_size) z
 
-abbrev decreases_loop : tie.decreases-loop
-decreases_loop c w z₀ n b j₀ z j = n - j
+abbrev decreases-loop-j : tie.decreases-loop-j
+decreases-loop-j c w z₀ n b j₀ z j = n - j
 
-nonterminals-requires : tie.Need-nonterminals-requires invariant_loop decreases_loop
+nonterminals-requires : tie.Need-nonterminals-requires invariant-loop-j decreases-loop-j
 nonterminals-requires c κs = search rules
 
-wide_requires : tie.Need-wide-requires invariant_loop decreases_loop
-wide_requires c κs = search rules
+wide-n-requires : tie.Need-wide-n-requires invariant-loop-j decreases-loop-j
+wide-n-requires c κs = search rules
 
-led-requires : tie.Need-led-requires invariant_loop decreases_loop
-led-requires c κs = search rules
+led-b-requires : tie.Need-led-b-requires invariant-loop-j decreases-loop-j
+led-b-requires c κs = search rules
 
-loop_holds : tie.Need-loop-init invariant_loop decreases_loop
-loop_holds c = (closures_start _ _, zero-le, refl, kept_same _ _)
+loop-j-init : tie.Need-loop-j-init invariant-loop-j decreases-loop-j
+loop-j-init c = (closures_start _ _, zero-le, refl, kept_same _ _)
 
-mul-firsts : tie.Need-overflow-mul-firsts invariant_loop decreases_loop
-mul-firsts c =
+offset_bounds-b-j : tie.Need-offset_bounds-b-j invariant-loop-j decreases-loop-j
+offset_bounds-b-j c =
     let args = c.before.before.before.before.before.before.before.before.args in
     let wf = well_formed args.c.now c.before.before.before.before.before.before.before.before.requires.0 in
-    let wide-call = c.before.before.before.wide in
+    let wide-call = c.before.before.before.wide-n in
     let nonterminals-call = c.before.before.before.before.nonterminals in
     omega (arith, wf.limits.nonterminals_to, wide-call.ensures, nonterminals-call.ensures)
 
-array-read-firsts : tie.Need-array-read-firsts invariant_loop decreases_loop
-array-read-firsts c =
+bounds-b-j : tie.Need-bounds-b-j invariant-loop-j decreases-loop-j
+bounds-b-j c =
     let args = c.before.before.before.before.before.before.before.before.args in
     let wf = well_formed args.c.now c.before.before.before.before.before.before.before.before.requires.0 in
-    let wide-call = c.before.before.before.wide in
+    let wide-call = c.before.before.before.wide-n in
     let nonterminals-call = c.before.before.before.before.nonterminals in
     omega (arith, wf.limits.nonterminals_to, wide-call.ensures, nonterminals-call.ensures)
 
-shl-firsts : tie.Need-overflow-shl-firsts invariant_loop decreases_loop
-shl-firsts c =
+overflow_shl-j : tie.Need-overflow_shl-j invariant-loop-j decreases-loop-j
+overflow_shl-j c =
     let args = c.before.before.before.before.before.before.before.before.args in
     let wf = well_formed args.c.now c.before.before.before.before.before.before.before.before.requires.0 in
-    let wide-call = c.before.before.before.wide in
+    let wide-call = c.before.before.before.wide-n in
     let nonterminals-call = c.before.before.before.before.nonterminals in
     omega (arith, wf.limits.nonterminals_to, wide-call.ensures, nonterminals-call.ensures)
 
-firsts-requires : tie.Need-firsts-requires invariant_loop decreases_loop
-firsts-requires c κs = search rules
+firsts-r-requires : tie.Need-firsts-r-requires invariant-loop-j decreases-loop-j
+firsts-r-requires c κs = search rules
 
-add-store : tie.Need-overflow-add-store invariant_loop decreases_loop
-add-store c =
+overflow_add-j : tie.Need-overflow_add-j invariant-loop-j decreases-loop-j
+overflow_add-j c =
     let args = c.before.before.before.before.before.before.before.before.before.before.args in
     let wf = well_formed args.c.now c.before.before.before.before.before.before.before.before.before.before.requires.0 in
-    let wide-call = c.before.before.before.before.before.wide in
+    let wide-call = c.before.before.before.before.before.wide-n in
     let nonterminals-call = c.before.before.before.before.before.before.nonterminals in
     omega (arith, wf.limits.nonterminals_to, wide-call.ensures, nonterminals-call.ensures)
 
-mul-store : tie.Need-overflow-mul-store invariant_loop decreases_loop
-mul-store c =
+overflow_mul-j : tie.Need-overflow_mul-j invariant-loop-j decreases-loop-j
+overflow_mul-j c =
     let args = c.before.before.before.before.before.before.before.before.before.before.args in
     let wf = well_formed args.c.now c.before.before.before.before.before.before.before.before.before.before.requires.0 in
-    let wide-call = c.before.before.before.before.before.wide in
+    let wide-call = c.before.before.before.before.before.wide-n in
     let nonterminals-call = c.before.before.before.before.before.before.nonterminals in
     omega (arith, wf.limits.nonterminals_to, wide-call.ensures, nonterminals-call.ensures)
 
-store-requires : tie.Need-store-requires invariant_loop decreases_loop
+store-requires : tie.Need-store-requires invariant-loop-j decreases-loop-j
 store-requires c κs =
     let args = c.before.before.before.before.before.before.before.before.before.before.args in
     let wf = well_formed args.c.now c.before.before.before.before.before.before.before.before.before.before.requires.0 in
-    let wide-call = c.before.before.before.before.before.wide in
+    let wide-call = c.before.before.before.before.before.wide-n in
     let nonterminals-call = c.before.before.before.before.before.before.nonterminals in
     let pre = c.before.before.before.before.before.before.before.before.before.before.requires in
     omega (arith, wf.limits.nonterminals_to, wide-call.ensures, nonterminals-call.ensures, pre.3)
 
-add-j : tie.Need-overflow-add-j invariant_loop decreases_loop
-add-j c =
+overflow_add-j-in-loop-j : tie.Need-overflow_add-j-in-loop-j invariant-loop-j decreases-loop-j
+overflow_add-j-in-loop-j c =
     let args = c.before.before.before.before.before.before.before.before.before.before.before.before.before.args in
     let wf = well_formed args.c.now c.before.before.before.before.before.before.before.before.before.before.before.before.before.requires.0 in
-    let wide-call = c.before.before.before.before.before.before.before.before.wide in
+    let wide-call = c.before.before.before.before.before.before.before.before.wide-n in
     let nonterminals-call = c.before.before.before.before.before.before.before.before.before.nonterminals in
     omega (arith, wf.limits.nonterminals_to, wide-call.ensures, nonterminals-call.ensures)
 
-loop_less : tie.Need-loop-smaller invariant_loop decreases_loop
-loop_less c = omega arith
+loop-j-smaller : tie.Need-loop-j-smaller invariant-loop-j decreases-loop-j
+loop-j-smaller c = omega arith
 
-loop_again : tie.Need-loop-preserved invariant_loop decreases_loop
-loop_again c =
+loop-j-preserved : tie.Need-loop-j-preserved invariant-loop-j decreases-loop-j
+loop-j-preserved c =
     let args = c.before.before.before.before.before.before.before.before.before.before.before.before.before.args in
     let wf = well_formed args.c.now c.before.before.before.before.before.before.before.before.before.before.before.before.before.requires.0 in
-    let loop = c.before.before.before.before.before.before.loop in
-    let wide-call = c.before.before.before.before.before.before.before.before.wide in
+    let loop = c.before.before.before.before.before.before.loop-j in
+    let wide-call = c.before.before.before.before.before.before.before.before.wide-n in
     let nonterminals-call = c.before.before.before.before.before.before.before.before.before.nonterminals in
-    let firsts-call = c.before.before.before.before.firsts in
+    let firsts-call = c.before.before.before.before.firsts-r in
     let store-call = c.before.before.store in
     let pre = c.before.before.before.before.before.before.before.before.before.before.before.before.before.requires in
-    let led-call = c.before.before.before.before.before.before.before.led in
+    let led-call = c.before.before.before.before.before.before.before.led-b in
     let h : loop.j < nonterminals args.c.now = omega (arith, wide-call.ensures, nonterminals-call.ensures) in
     let l : loop.j < 60 = omega (arith, wf.limits.nonterminals_to) in
-    let ad : Added loop.z (closures_at + loop.j) firsts-call.result store-call.new.0 = rw store-call.ensures (added loop.z (closures_at + loop.j) firsts-call.result (search rules) (omega (arith, pre.3))) in (
+    let ad : Added loop.z (closures_at + loop.j) firsts-call.result store-call.new.d = rw store-call.ensures (added loop.z (closures_at + loop.j) firsts-call.result (search rules) (omega (arith, pre.3))) in (
       closures_more _ _ _ _ _ _ wf loop.invariant.0 led-call.ensures h (rw (one_shl 64 loop.j (omega arith)) at firsts-call.ensures) ad,
       omega arith,
-      store-call.auto.0 ∙ loop.invariant.2,
+      store-call.auto.d ∙ loop.invariant.2,
       kept_then loop.invariant.3 ad.behind (omega arith),
     )
 
-same_length : tie.Need-same-length invariant_loop decreases_loop
-same_length c =
-    let loop = c.before.loop in
+shape_of-z : tie.Need-shape_of-z invariant-loop-j decreases-loop-j
+shape_of-z c =
+    let loop = c.before.loop-j in
     loop.invariant.2
 
-returns : tie.Need-returns invariant_loop decreases_loop
+returns : tie.Need-returns invariant-loop-j decreases-loop-j
 returns c =
-    let loop = c.before.loop in
+    let loop = c.before.loop-j in
     let args = c.before.before.before.before.before.before.before.before.args in
-    let wide-call = c.before.before.before.wide in
+    let wide-call = c.before.before.before.wide-n in
     let nonterminals-call = c.before.before.before.before.nonterminals in
     let e : loop.j ≡ nonterminals args.c.now = omega (arith, wide-call.ensures, nonterminals-call.ensures) in
     (rw e at loop.invariant.0, loop.invariant.3)
 
-pub fill-closures-spec : {M : Type 1} → statement M
-fill-closures-spec =
+pub fill_closures_spec : {M : Type 1} → statement M
+fill_closures_spec =
     tie.close
     (tie.spec
-    invariant_loop
-    decreases_loop
+    invariant-loop-j
+    decreases-loop-j
     nonterminals-requires
-    wide_requires
-    led-requires
-    loop_holds
-    mul-firsts
-    array-read-firsts
-    shl-firsts
-    firsts-requires
-    add-store
-    mul-store
+    wide-n-requires
+    led-b-requires
+    loop-j-init
+    offset_bounds-b-j
+    bounds-b-j
+    overflow_shl-j
+    firsts-r-requires
+    overflow_add-j
+    overflow_mul-j
     store-requires
-    add-j
-    loop_less
-    loop_again
-    same_length
+    overflow_add-j-in-loop-j
+    loop-j-smaller
+    loop-j-preserved
+    shape_of-z
     returns)

@@ -13,59 +13,59 @@ use Rattle.grammar.proofs.CardLaws.{well_formed}
 use Rattle.closures.proofs.fill_production.Statement.{statement}
 use Rattle.closures.proofs.fill_production.Tie as tie
 
-abbrev invariant_loop : tie.invariant-loop
-invariant_loop c w₀ r f s n i₀ w i = Filled c w (f + i) × (i ≤ n) × (length w ≡ length w₀) × Kept w₀ item_limit w × (f + n < 640) × (s + n ≤ 512) × (item_limit ≤ length w₀)
+abbrev invariant-loop-i : tie.invariant-loop-i
+invariant-loop-i c w₀ r f s n i₀ w i = Filled c w (f + i) × (i ≤ n) × (length w ≡ length w₀) × Kept w₀ item_limit w × (f + n < 640) × (s + n ≤ 512) × (item_limit ≤ length w₀)
 
-abbrev decreases_loop : tie.decreases-loop
-decreases_loop c w₀ r f s n i₀ w i = n - i
+abbrev decreases-loop-i : tie.decreases-loop-i
+decreases-loop-i c w₀ r f s n i₀ w i = n - i
 
-loop_holds : tie.Need-loop-init invariant_loop decreases_loop
-loop_holds c =
+loop-i-init : tie.Need-loop-i-init invariant-loop-i decreases-loop-i
+loop-i-init c =
     let args = c.before.before.args in
     let wf = well_formed args.c.now c.before.before.requires.0 in
     let pre = c.before.before.requires in
     let b = bounds args.c.now wf args.r pre.1 in
     (rw (add-zero args.f) pre.6, zero-le, refl, kept_same _ _, omega arith, omega arith, pre.5)
 
-wider-requires : tie.Need-wider-requires invariant_loop decreases_loop
+wider-requires : tie.Need-wider-requires invariant-loop-i decreases-loop-i
 wider-requires c κs = search rules
 
-add-symbol : tie.Need-overflow-add-symbol invariant_loop decreases_loop
-add-symbol c = omega arith
+overflow_add-s : tie.Need-overflow_add-s invariant-loop-i decreases-loop-i
+overflow_add-s c = omega arith
 
-symbol-requires : tie.Need-symbol-requires invariant_loop decreases_loop
+symbol-requires : tie.Need-symbol-requires invariant-loop-i decreases-loop-i
 symbol-requires c κs = search rules
 
-wider-requires-2 : tie.Need-wider-requires-2 invariant_loop decreases_loop
-wider-requires-2 c κs = search rules
+wider-requires-in-loop-i : tie.Need-wider-requires-in-loop-i invariant-loop-i decreases-loop-i
+wider-requires-in-loop-i c κs = search rules
 
-wide_requires : tie.Need-wide-requires invariant_loop decreases_loop
-wide_requires c κs = search rules
+wide-requires : tie.Need-wide-requires invariant-loop-i decreases-loop-i
+wide-requires c κs = search rules
 
-add-w : tie.Need-overflow-add-w invariant_loop decreases_loop
-add-w c = omega arith
+overflow_add-w : tie.Need-overflow_add-w invariant-loop-i decreases-loop-i
+overflow_add-w c = omega arith
 
-mul-w : tie.Need-overflow-mul-w invariant_loop decreases_loop
-mul-w c = omega arith
+offset_bounds-w-f : tie.Need-offset_bounds-w-f invariant-loop-i decreases-loop-i
+offset_bounds-w-f c = omega arith
 
-slice-write-w : tie.Need-slice-write-w invariant_loop decreases_loop
-slice-write-w c = omega arith
+bounds-w-f : tie.Need-bounds-w-f invariant-loop-i decreases-loop-i
+bounds-w-f c = omega arith
 
-add_i : tie.Need-overflow-add-i invariant_loop decreases_loop
-add_i c = omega arith
+overflow_add-i : tie.Need-overflow_add-i invariant-loop-i decreases-loop-i
+overflow_add-i c = omega arith
 
-loop_less : tie.Need-loop-smaller invariant_loop decreases_loop
-loop_less c = omega arith
+loop-i-smaller : tie.Need-loop-i-smaller invariant-loop-i decreases-loop-i
+loop-i-smaller c = omega arith
 
-loop_again : tie.Need-loop-preserved invariant_loop decreases_loop
-loop_again c =
+loop-i-preserved : tie.Need-loop-i-preserved invariant-loop-i decreases-loop-i
+loop-i-preserved c =
     let pre = c.before.before.before.before.before.before.before.before.requires in
-    let loop-test = c.before.before.before.before.loop-test in
+    let loop-test = c.before.before.before.before.loop-i-test in
     let wide-call = c.wide in
     let wider-call = c.before.before.before.wider in
     let symbol-call = c.before.before.symbol in
-    let wider2-call = c.before.wider2 in
-    let loop = c.before.before.before.before.before.loop in (
+    let wider2-call = c.before.wider-in-loop-i in
+    let loop = c.before.before.before.before.before.loop-i in (
       production_more _ _ _ _ _ _ _ _ _ _ _ pre.4 pre.3 pre.2 pre.1 loop-test.true wide-call.ensures wider-call.ensures symbol-call.ensures wider2-call.ensures (omega arith) loop.invariant.0,
       omega arith,
       simp length-set loop.invariant.2,
@@ -75,53 +75,53 @@ loop_again c =
       loop.invariant.6,
     )
 
-wide-requires-2 : tie.Need-wide-requires-2 invariant_loop decreases_loop
+wide-requires-2 : tie.Need-wide-requires-2 invariant-loop-i decreases-loop-i
 wide-requires-2 c κs = search rules
 
-add-w-2 : tie.Need-overflow-add-w-2 invariant_loop decreases_loop
-add-w-2 c = omega arith
+overflow_add-w-2 : tie.Need-overflow_add-w-2 invariant-loop-i decreases-loop-i
+overflow_add-w-2 c = omega arith
 
-mul-w-2 : tie.Need-overflow-mul-w-2 invariant_loop decreases_loop
-mul-w-2 c = omega arith
+offset_bounds-w-f-2 : tie.Need-offset_bounds-w-f-2 invariant-loop-i decreases-loop-i
+offset_bounds-w-f-2 c = omega arith
 
-slice-write-w-2 : tie.Need-slice-write-w-2 invariant_loop decreases_loop
-slice-write-w-2 c = omega arith
+bounds-w-f-2 : tie.Need-bounds-w-f-2 invariant-loop-i decreases-loop-i
+bounds-w-f-2 c = omega arith
 
-same_length : tie.Need-same-length invariant_loop decreases_loop
-same_length c =
-    let loop = c.before.before.loop in
+shape_of-w : tie.Need-shape_of-w invariant-loop-i decreases-loop-i
+shape_of-w c =
+    let loop = c.before.before.loop-i in
     simp length-set loop.invariant.2
 
-returns : tie.Need-returns invariant_loop decreases_loop
+returns : tie.Need-returns invariant-loop-i decreases-loop-i
 returns c =
-    let loop = c.before.before.loop in
+    let loop = c.before.before.loop-i in
     let args = c.before.before.before.before.before.args in
     let pre = c.before.before.before.before.before.requires in
-    let wide2-call = c.wide2 in
+    let wide2-call = c.wide-2 in
     let e : loop.i ≡ args.n = omega arith in
     (production_end _ _ _ _ _ _ _ pre.4 pre.2 pre.1 e wide2-call.ensures (omega arith) loop.invariant.0, kept_set _ _ _ _ _ loop.invariant.3 (omega arith))
 
-pub fill-production-spec : {M : Type 1} → statement M
-fill-production-spec =
+pub fill_production_spec : {M : Type 1} → statement M
+fill_production_spec =
     tie.close
     (tie.spec
-    invariant_loop
-    decreases_loop
-    loop_holds
+    invariant-loop-i
+    decreases-loop-i
+    loop-i-init
     wider-requires
-    add-symbol
+    overflow_add-s
     symbol-requires
-    wider-requires-2
-    wide_requires
-    add-w
-    mul-w
-    slice-write-w
-    add_i
-    loop_less
-    loop_again
+    wider-requires-in-loop-i
+    wide-requires
+    overflow_add-w
+    offset_bounds-w-f
+    bounds-w-f
+    overflow_add-i
+    loop-i-smaller
+    loop-i-preserved
     wide-requires-2
-    add-w-2
-    mul-w-2
-    slice-write-w-2
-    same_length
+    overflow_add-w-2
+    offset_bounds-w-f-2
+    bounds-w-f-2
+    shape_of-w
     returns)

@@ -7,15 +7,15 @@ use Rattle.closures.proofs.through.Tie as tie
 has-requires : tie.Need-has-requires
 has-requires c κs = search rules
 
-returns : tie.Need-returns
-returns c =
+returns-then-has : tie.Need-returns-then-has
+returns-then-has c =
     let has-call = c.before.has in
-    through_taken _ _ _ (sym has-call.ensures ∙ c.if1.true)
+    through_taken _ _ _ (sym has-call.ensures ∙ c.if-has.true)
 
-returns_2 : tie.Need-returns-2
-returns_2 c =
+returns-else-has : tie.Need-returns-else-has
+returns-else-has c =
     let has-call = c.before.has in
-    through_left _ _ _ (sym has-call.ensures ∙ c.if1.false)
+    through_left _ _ _ (sym has-call.ensures ∙ c.if-has.false)
 
-pub through-spec : {M : Type 1} → statement M
-through-spec = tie.close (tie.spec has-requires returns returns_2)
+pub through_spec : {M : Type 1} → statement M
+through_spec = tie.close (tie.spec has-requires returns-then-has returns-else-has)

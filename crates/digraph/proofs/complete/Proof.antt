@@ -14,81 +14,81 @@ use Rattle.digraph.proofs.complete.Statement.{statement}
 use Rattle.digraph.proofs.Steps as steps
 use Rattle.digraph.proofs.complete.Tie as tie
 
-abbrev invariant_loop : tie.invariant-loop
-invariant_loop relation c w z₀ k x₀ z x =
+abbrev invariant-loop-x : tie.invariant-loop-x
+invariant-loop-x relation c w z₀ k x₀ z x =
     (length z ≡ length z₀)
     × ((start : ℕ → ℕ) → InvIn (Edge relation c w k) k start z₀ 0 → InvIn (Edge relation c w k) k start z 0)
     × ((v : ℕ) → v < x → num_in z v ≡ 0 → ⊥) × ((i : ℕ) → shifts_at ≤ i → at z i ≡ at z₀ i)
 
-abbrev decreases_loop : tie.decreases-loop
-decreases_loop relation c w z₀ k x₀ z x = k - x
+abbrev decreases-loop-x : tie.decreases-loop-x
+decreases-loop-x relation c w z₀ k x₀ z x = k - x
 
-clear-requires : tie.Need-clear-requires invariant_loop decreases_loop
+clear-requires : tie.Need-clear-requires invariant-loop-x decreases-loop-x
 clear-requires c κs = (c.before.before.before.before.requires.1, c.before.before.before.before.requires.2)
 
-loop_holds : tie.Need-loop-init invariant_loop decreases_loop
-loop_holds c = (refl, λ start I. I, λ v h. absurd (omega arith), λ i h. refl)
+loop-x-init : tie.Need-loop-x-init invariant-loop-x decreases-loop-x
+loop-x-init c = (refl, λ start I. I, λ v h. absurd (omega arith), λ i h. refl)
 
-visit-requires : tie.Need-visit-requires invariant_loop decreases_loop
+visit-requires : tie.Need-visit-requires invariant-loop-x decreases-loop-x
 visit-requires c κs =
     let p = c.before.before.before.before.before.before.before.before.before.before.requires in
-    let l = c.before.before.loop in
-    let long : words_size ≤ length l.z = omega (arith, p.2, c.before.before.before.before.before.clear.auto.0, l.invariant.0) in
-    (steps.empty-room c.before.before.before.before.before.before.before.before.before.before.args.k l.z p.1 long, p.0, c.before.loop-test.true)
+    let l = c.before.before.loop-x in
+    let long : words_size ≤ length l.z = omega (arith, p.2, c.before.before.before.before.before.clear.auto.z, l.invariant.0) in
+    (steps.empty-room c.before.before.before.before.before.before.before.before.before.before.args.k l.z p.1 long, p.0, c.before.loop-x-test.true)
 
-add-x : tie.Need-overflow-add-x invariant_loop decreases_loop
-add-x c = omega (arith, c.before.before.before.before.before.before.before.before.before.before.before.before.before.requires.1, c.before.before.before.before.loop-test.true)
+overflow_add-x : tie.Need-overflow_add-x invariant-loop-x decreases-loop-x
+overflow_add-x c = omega (arith, c.before.before.before.before.before.before.before.before.before.before.before.before.before.requires.1, c.before.before.before.before.loop-x-test.true)
 
-loop_less : tie.Need-loop-smaller invariant_loop decreases_loop
-loop_less c = omega (arith, c.before.before.before.before.loop-test.true)
+loop-x-smaller : tie.Need-loop-x-smaller invariant-loop-x decreases-loop-x
+loop-x-smaller c = omega (arith, c.before.before.before.before.loop-x-test.true)
 
-loop_again : tie.Need-loop-preserved invariant_loop decreases_loop
-loop_again c =
+loop-x-preserved : tie.Need-loop-x-preserved invariant-loop-x decreases-loop-x
+loop-x-preserved c =
     let a = c.before.before.before.before.before.before.before.before.before.before.before.before.before.args in
     let E = Edge a.relation a.c.now a.w.now a.k in
-    let l = c.before.before.before.before.before.loop in
+    let l = c.before.before.before.before.before.loop-x in
     let i = l.invariant in
     let v = c.before.before.visit in
     let z = v.new.1.1.1.0 in
     let s = v.ensures in
-    let t = c.before.before.before.before.loop-test.true in (
-      v.auto.1.1.1.0 ∙ i.0,
+    let t = c.before.before.before.before.loop-x-test.true in (
+      v.auto.z ∙ i.0,
       λ start I. steps.rooted E a.k l.z l.x z v.result s start (i.1 start I),
       λ u h e. ⊎_elim (λ g. i.2 u g (s.kept.visited u (omega arith) e)) (λ q. s.marked (ap (num_in z) (sym q) ∙ e)) (below_suc h),
       λ j h. s.kept.rest j h ∙ i.3 j h,
     )
 
-same_length : tie.Need-same-length invariant_loop decreases_loop
-same_length c = c.before.loop.invariant.0 ∙ c.before.before.before.before.clear.auto.0
+shape_of-z : tie.Need-shape_of-z invariant-loop-x decreases-loop-x
+shape_of-z c = c.before.loop-x.invariant.0 ∙ c.before.before.before.before.clear.auto.z
 
-returns : tie.Need-returns invariant_loop decreases_loop
+returns : tie.Need-returns invariant-loop-x decreases-loop-x
 returns c =
     let a = c.before.before.before.before.before.before.before.before.before.args in
     let p = c.before.before.before.before.before.before.before.before.before.requires in
     let E = Edge a.relation a.c.now a.w.now a.k in
-    let l = c.before.loop in
+    let l = c.before.loop-x in
     let i = l.invariant in
     let r = c.before.before.before.before.clear in
-    let t = c.loop-test.false in
+    let t = c.loop-x-test.false in
     record {
       sets =
           steps.ended E a.k l.z (at a.z.now) (λ v h. i.2 v (omega arith))
-          (i.1 (at a.z.now) (steps.cleared E a.k r.new.0 a.z.now p.1 r.ensures));
+          (i.1 (at a.z.now) (steps.cleared E a.k r.new.z a.z.now p.1 r.ensures));
       rest = λ j h. i.3 j h ∙ r.ensures.rest j (omega arith);
-      size = i.0 ∙ r.auto.0;
+      size = i.0 ∙ r.auto.z;
     }
 
-pub complete-spec : {M : Type 1} → statement M
-complete-spec =
+pub complete_spec : {M : Type 1} → statement M
+complete_spec =
     tie.close
     (tie.spec
-    invariant_loop
-    decreases_loop
+    invariant-loop-x
+    decreases-loop-x
     clear-requires
-    loop_holds
+    loop-x-init
     visit-requires
-    add-x
-    loop_less
-    loop_again
-    same_length
+    overflow_add-x
+    loop-x-smaller
+    loop-x-preserved
+    shape_of-z
     returns)

@@ -11,56 +11,56 @@ use Rattle.digraph.proofs.join.Statement.{statement}
 use Rattle.digraph.proofs.Steps as steps
 use Rattle.digraph.proofs.join.Tie as tie
 
-mul-z : tie.Need-overflow-mul-z
-mul-z c = search rules
+offset_bounds-z-x : tie.Need-offset_bounds-z-x
+offset_bounds-z-x c = search rules
 
-slice-read-z : tie.Need-slice-read-z
-slice-read-z c = search rules
+bounds-z-x : tie.Need-bounds-z-x
+bounds-z-x c = search rules
 
-mul-z-2 : tie.Need-overflow-mul-z-2
-mul-z-2 c = search rules
+offset_bounds-z-y : tie.Need-offset_bounds-z-y
+offset_bounds-z-y c = search rules
 
-slice-read-z-2 : tie.Need-slice-read-z-2
-slice-read-z-2 c = search rules
+bounds-z-y : tie.Need-bounds-z-y
+bounds-z-y c = search rules
 
-mul-z-3 : tie.Need-overflow-mul-z-3
-mul-z-3 c = search rules
+offset_bounds-z-x-2 : tie.Need-offset_bounds-z-x-2
+offset_bounds-z-x-2 c = search rules
 
-slice-write-z : tie.Need-slice-write-z
-slice-write-z c = search rules
+bounds-z-x-2 : tie.Need-bounds-z-x-2
+bounds-z-x-2 c = search rules
 
-add-least : tie.Need-overflow-add-least
-add-least c = search rules
+overflow_add-x : tie.Need-overflow_add-x
+overflow_add-x c = search rules
 
-mul-least : tie.Need-overflow-mul-least
-mul-least c = search rules
+offset_bounds-z-x-3 : tie.Need-offset_bounds-z-x-3
+offset_bounds-z-x-3 c = search rules
 
-slice-read-least : tie.Need-slice-read-least
-slice-read-least c = simp length-set (omega arith)
+bounds-z-x-3 : tie.Need-bounds-z-x-3
+bounds-z-x-3 c = simp length-set (omega arith)
 
-add-least-2 : tie.Need-overflow-add-least-2
-add-least-2 c = search rules
+overflow_add-y : tie.Need-overflow_add-y
+overflow_add-y c = search rules
 
-mul-least-2 : tie.Need-overflow-mul-least-2
-mul-least-2 c = search rules
+offset_bounds-z-y-2 : tie.Need-offset_bounds-z-y-2
+offset_bounds-z-y-2 c = search rules
 
-slice-read-least-2 : tie.Need-slice-read-least-2
-slice-read-least-2 c = simp length-set (omega arith)
+bounds-z-y-2 : tie.Need-bounds-z-y-2
+bounds-z-y-2 c = simp length-set (omega arith)
 
 least-requires : tie.Need-least-requires
 least-requires c κs = search rules
 
-add-z : tie.Need-overflow-add-z
-add-z c = search rules
+overflow_add-z : tie.Need-overflow_add-z
+overflow_add-z c = search rules
 
-mul-z-4 : tie.Need-overflow-mul-z-4
-mul-z-4 c = search rules
+offset_bounds-z-x-4 : tie.Need-offset_bounds-z-x-4
+offset_bounds-z-x-4 c = search rules
 
-slice-write-z-2 : tie.Need-slice-write-z-2
-slice-write-z-2 c = simp length-set (omega arith)
+bounds-z-x-4 : tie.Need-bounds-z-x-4
+bounds-z-x-4 c = simp length-set (omega arith)
 
-same_length : tie.Need-same-length
-same_length c = search rules
+shape_of-z : tie.Need-shape_of-z
+shape_of-z c = search rules
 
 returns : tie.Need-returns
 returns c =
@@ -71,25 +71,25 @@ returns c =
     ap (set (set z a.x joined) (numbers_at + a.x))
     (c.least.ensures ∙ ap₂ min (steps.num-set z a.x joined a.x p.1) (steps.num-set z a.x joined a.y p.1))
 
-pub join-spec : {M : Type 1} → statement M
-join-spec =
+pub join_spec : {M : Type 1} → statement M
+join_spec =
     tie.close
     (tie.spec
-    mul-z
-    slice-read-z
-    mul-z-2
-    slice-read-z-2
-    mul-z-3
-    slice-write-z
-    add-least
-    mul-least
-    slice-read-least
-    add-least-2
-    mul-least-2
-    slice-read-least-2
+    offset_bounds-z-x
+    bounds-z-x
+    offset_bounds-z-y
+    bounds-z-y
+    offset_bounds-z-x-2
+    bounds-z-x-2
+    overflow_add-x
+    offset_bounds-z-x-3
+    bounds-z-x-3
+    overflow_add-y
+    offset_bounds-z-y-2
+    bounds-z-y-2
     least-requires
-    add-z
-    mul-z-4
-    slice-write-z-2
-    same_length
+    overflow_add-z
+    offset_bounds-z-x-4
+    bounds-z-x-4
+    shape_of-z
     returns)

@@ -5,29 +5,29 @@ use borrow.Author.Rules.{rules}
 use Rattle.digraph.proofs.push.Statement.{statement}
 use Rattle.digraph.proofs.push.Tie as tie
 
-add-z : tie.Need-overflow-add-z
-add-z c = search rules
+overflow_add-z : tie.Need-overflow_add-z
+overflow_add-z c = search rules
 
-mul-z : tie.Need-overflow-mul-z
-mul-z c = search rules
+offset_bounds-z-depth : tie.Need-offset_bounds-z-depth
+offset_bounds-z-depth c = search rules
 
-slice-write-z : tie.Need-slice-write-z
-slice-write-z c = search rules
+bounds-z-depth : tie.Need-bounds-z-depth
+bounds-z-depth c = search rules
 
-add-z-2 : tie.Need-overflow-add-z-2
-add-z-2 c = search rules
+overflow_add-z-2 : tie.Need-overflow_add-z-2
+overflow_add-z-2 c = search rules
 
-add-z-3 : tie.Need-overflow-add-z-3
-add-z-3 c = search rules
+overflow_add-z-3 : tie.Need-overflow_add-z-3
+overflow_add-z-3 c = search rules
 
-mul-z-2 : tie.Need-overflow-mul-z-2
-mul-z-2 c = search rules
+offset_bounds-z-x : tie.Need-offset_bounds-z-x
+offset_bounds-z-x c = search rules
 
-slice-write-z-2 : tie.Need-slice-write-z-2
-slice-write-z-2 c = simp length-set (omega arith)
+bounds-z-x : tie.Need-bounds-z-x
+bounds-z-x c = simp length-set (omega arith)
 
-same_length : tie.Need-same-length
-same_length c = search rules
+shape_of-z : tie.Need-shape_of-z
+shape_of-z c = search rules
 
 returns : tie.Need-returns
 returns c = search rules
@@ -36,12 +36,12 @@ pub push_spec : {M : Type 1} → statement M
 push_spec =
     tie.close
     (tie.spec
-    add-z
-    mul-z
-    slice-write-z
-    add-z-2
-    add-z-3
-    mul-z-2
-    slice-write-z-2
-    same_length
+    overflow_add-z
+    offset_bounds-z-depth
+    bounds-z-depth
+    overflow_add-z-2
+    overflow_add-z-3
+    offset_bounds-z-x
+    bounds-z-x
+    shape_of-z
     returns)

@@ -5,27 +5,27 @@ use borrow.Author.Rules.{rules}
 use Rattle.digraph.proofs.settle.Statement.{statement}
 use Rattle.digraph.proofs.settle.Tie as tie
 
-add-z : tie.Need-overflow-add-z
-add-z c = search rules
+overflow_add-z : tie.Need-overflow_add-z
+overflow_add-z c = search rules
 
-mul-z : tie.Need-overflow-mul-z
-mul-z c = search rules
+offset_bounds-z-v : tie.Need-offset_bounds-z-v
+offset_bounds-z-v c = search rules
 
-slice-write-z : tie.Need-slice-write-z
-slice-write-z c = search rules
+bounds-z-v : tie.Need-bounds-z-v
+bounds-z-v c = search rules
 
-mul-z-2 : tie.Need-overflow-mul-z-2
-mul-z-2 c = search rules
+offset_bounds-z-v-2 : tie.Need-offset_bounds-z-v-2
+offset_bounds-z-v-2 c = search rules
 
-slice-write-z-2 : tie.Need-slice-write-z-2
-slice-write-z-2 c = simp length-set (omega arith)
+bounds-z-v-2 : tie.Need-bounds-z-v-2
+bounds-z-v-2 c = simp length-set (omega arith)
 
-same_length : tie.Need-same-length
-same_length c = search rules
+shape_of-z : tie.Need-shape_of-z
+shape_of-z c = search rules
 
 returns : tie.Need-returns
 returns c = search rules
 
-pub settle-spec : {M : Type 1} → statement M
-settle-spec =
-    tie.close (tie.spec add-z mul-z slice-write-z mul-z-2 slice-write-z-2 same_length returns)
+pub settle_spec : {M : Type 1} → statement M
+settle_spec =
+    tie.close (tie.spec overflow_add-z offset_bounds-z-v bounds-z-v offset_bounds-z-v-2 bounds-z-v-2 shape_of-z returns)

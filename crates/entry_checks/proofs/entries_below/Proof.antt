@@ -9,33 +9,33 @@ use borrow.Author.Rules.{rules}
 use Rattle.entry_checks.proofs.entries_below.Statement.{statement}
 use Rattle.entry_checks.proofs.entries_below.Tie as tie
 
-abbrev invariant_loop : tie.invariant-loop
-invariant_loop t z entries w ok₀ q₀ ok q = (ok ≡ all_below q (entry_ok t)) × (q ≤ entries)
+abbrev invariant-loop-q : tie.invariant-loop-q
+invariant-loop-q t z entries w ok₀ q₀ ok q = (ok ≡ all_below q (entry_ok t)) × (q ≤ entries)
 
-abbrev decreases_loop : tie.decreases-loop
-decreases_loop t z entries w ok₀ q₀ ok q = entries - q
+abbrev decreases-loop-q : tie.decreases-loop-q
+decreases-loop-q t z entries w ok₀ q₀ ok q = entries - q
 
-cast-w : tie.Need-overflow-cast-w invariant_loop decreases_loop
-cast-w c = omega (arith, width_most c.before.before.requires)
+overflow_cast-w : tie.Need-overflow_cast-w invariant-loop-q decreases-loop-q
+overflow_cast-w c = omega (arith, width_most c.before.before.requires)
 
-loop_holds : tie.Need-loop-init invariant_loop decreases_loop
+loop-q-init : tie.Need-loop-q-init invariant-loop-q decreases-loop-q
 unfolding all_below
-loop_holds c = (refl, zero-le)
+loop-q-init c = (refl, zero-le)
 
-entered-requires : tie.Need-entered-requires invariant_loop decreases_loop
-entered-requires c κs = (c.before.before.before.before.requires.shaped, entered_fits c.before.before.before.before.requires c.before.loop.q c.loop-test.true)
+entered-requires : tie.Need-entered-requires invariant-loop-q decreases-loop-q
+entered-requires c κs = (c.before.before.before.before.requires.shaped, entered_fits c.before.before.before.before.requires c.before.loop-q.q c.loop-q-test.true)
 
-add-q : tie.Need-overflow-add-q invariant_loop decreases_loop
-add-q c = omega (arith, c.before.before.before.before.before.before.requires.shaped.states_fit, c.before.before.loop-test.true)
+overflow_add-q : tie.Need-overflow_add-q invariant-loop-q decreases-loop-q
+overflow_add-q c = omega (arith, c.before.before.before.before.before.before.requires.shaped.states_fit, c.before.before.loop-q-test.true)
 
-loop_less : tie.Need-loop-smaller invariant_loop decreases_loop
-loop_less c = omega arith
+loop-q-smaller : tie.Need-loop-q-smaller invariant-loop-q decreases-loop-q
+loop-q-smaller c = omega arith
 
-loop_again : tie.Need-loop-preserved invariant_loop decreases_loop
-loop_again c = (c.both.ensures ∙ all_step (entry_ok c.before.before.before.before.before.before.args.t.now) c.before.before.before.loop.q c.before.before.before.loop.invariant.0 (entry_is c.before.before.before.before.before.before.requires c.before.before.before.loop.q c.before.entered.ensures), omega arith)
+loop-q-preserved : tie.Need-loop-q-preserved invariant-loop-q decreases-loop-q
+loop-q-preserved c = (c.both-ok.ensures ∙ all_step (entry_ok c.before.before.before.before.before.before.args.t.now) c.before.before.before.loop-q.q c.before.before.before.loop-q.invariant.0 (entry_is c.before.before.before.before.before.before.requires c.before.before.before.loop-q.q c.before.entered.ensures), omega arith)
 
-returns : tie.Need-returns invariant_loop decreases_loop
-returns c = all_last (entry_ok c.before.before.before.before.args.t.now) _ c.before.loop.q c.before.loop.invariant.0 c.before.loop.invariant.1 c.loop-test.false ∙ ap (λ (n : ℕ). all_below n (entry_ok c.before.before.before.before.args.t.now)) c.before.before.before.before.requires.shaped.states_are
+returns : tie.Need-returns invariant-loop-q decreases-loop-q
+returns c = all_last (entry_ok c.before.before.before.before.args.t.now) _ c.before.loop-q.q c.before.loop-q.invariant.0 c.before.loop-q.invariant.1 c.loop-q-test.false ∙ ap (λ (n : ℕ). all_below n (entry_ok c.before.before.before.before.args.t.now)) c.before.before.before.before.requires.shaped.states_are
 
-pub entries-below-spec : {M : Type 1} → statement M
-entries-below-spec = tie.close (tie.spec invariant_loop decreases_loop cast-w loop_holds entered-requires (λ c κs. search rules) add-q loop_less loop_again returns)
+pub entries_below_spec : {M : Type 1} → statement M
+entries_below_spec = tie.close (tie.spec invariant-loop-q decreases-loop-q overflow_cast-w loop-q-init entered-requires (λ c κs. search rules) overflow_add-q loop-q-smaller loop-q-preserved returns)

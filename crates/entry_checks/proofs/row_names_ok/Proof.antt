@@ -11,45 +11,45 @@ use borrow.Author.Rules.{rules}
 use Rattle.entry_checks.proofs.row_names_ok.Statement.{statement}
 use Rattle.entry_checks.proofs.row_names_ok.Tie as tie
 
-abbrev invariant_loop : tie.invariant-loop
-invariant_loop t z q from n x₀ x = (all_below x (λ x. names_ok t x (cell_of t q x)) ≡ true) × (x ≤ n)
+abbrev invariant-loop-x : tie.invariant-loop-x
+invariant-loop-x t z q from n x₀ x = (all_below x (λ x. names_ok t x (cell_of t q x)) ≡ true) × (x ≤ n)
 
-abbrev decreases_loop : tie.decreases-loop
-decreases_loop t z q from n x₀ x = n - x
+abbrev decreases-loop-x : tie.decreases-loop-x
+decreases-loop-x t z q from n x₀ x = n - x
 
-mul-from : tie.Need-overflow-mul-from invariant_loop decreases_loop
-mul-from c = omega (arith, columns_fit c.before.before.requires.0 c.before.before.args.q c.before.before.requires.1, c.before.before.well-formed)
+overflow_mul-from : tie.Need-overflow_mul-from invariant-loop-x decreases-loop-x
+overflow_mul-from c = omega (arith, columns_fit c.before.before.requires.0 c.before.before.args.q c.before.before.requires.1, c.before.before.well_formed)
 
-add-from : tie.Need-overflow-add-from invariant_loop decreases_loop
-add-from c = omega (arith, columns_fit c.before.before.before.requires.0 c.before.before.before.args.q c.before.before.before.requires.1, c.before.before.before.well-formed)
+overflow_add-from : tie.Need-overflow_add-from invariant-loop-x decreases-loop-x
+overflow_add-from c = omega (arith, columns_fit c.before.before.before.requires.0 c.before.before.before.args.q c.before.before.before.requires.1, c.before.before.before.well_formed)
 
-loop_holds : tie.Need-loop-init invariant_loop decreases_loop
+loop-x-init : tie.Need-loop-x-init invariant-loop-x decreases-loop-x
 unfolding all_below
-loop_holds c = (refl, zero-le)
+loop-x-init c = (refl, zero-le)
 
-add-loop : tie.Need-overflow-add-loop invariant_loop decreases_loop
-add-loop c = omega (arith, columns_fit c.before.before.before.before.requires.0 c.before.before.before.before.args.q c.before.before.before.before.requires.1, c.before.before.before.before.well-formed)
+overflow_add-x : tie.Need-overflow_add-x invariant-loop-x decreases-loop-x
+overflow_add-x c = omega (arith, columns_fit c.before.before.before.before.requires.0 c.before.before.before.before.args.q c.before.before.before.before.requires.1, c.before.before.before.before.well_formed)
 
-part-ok-requires : tie.Need-part-ok-requires invariant_loop decreases_loop
-part-ok-requires c κs = (c.before.before.before.before.before.requires.0, omega (arith, columns_fit c.before.before.before.before.before.requires.0 c.before.before.before.before.before.args.q c.before.before.before.before.before.requires.1))
+part_ok-requires : tie.Need-part_ok-requires invariant-loop-x decreases-loop-x
+part_ok-requires c κs = (c.before.before.before.before.before.requires.0, omega (arith, columns_fit c.before.before.before.before.before.requires.0 c.before.before.before.before.before.args.q c.before.before.before.before.before.requires.1))
 
-returns : tie.Need-returns invariant_loop decreases_loop
-returns c = part_fails c.before.before.before.before.before.before.before.requires.0 c.before.before.before.before.before.before.before.args.q c.before.before.before.loop.x 8 c.before.before.loop-test.true c.before.before.before.loop.invariant.0 c.before.part-ok.ensures (not-true _ c.if1.true)
+returns-then-not-part_ok : tie.Need-returns-then-not-part_ok invariant-loop-x decreases-loop-x
+returns-then-not-part_ok c = part_fails c.before.before.before.before.before.before.before.requires.0 c.before.before.before.before.before.before.before.args.q c.before.before.before.loop-x.x 8 c.before.before.loop-x-test.true c.before.before.before.loop-x.invariant.0 c.before.part_ok.ensures (not-true _ c.if-not-part_ok.true-raw)
 
-add-x : tie.Need-overflow-add-x invariant_loop decreases_loop
-add-x c = omega (arith, columns_fit c.before.before.before.before.before.before.before.requires.0 c.before.before.before.before.before.before.before.args.q c.before.before.before.before.before.before.before.requires.1, c.before.before.before.before.before.before.before.well-formed)
+overflow_add-x-in-loop-x : tie.Need-overflow_add-x-in-loop-x invariant-loop-x decreases-loop-x
+overflow_add-x-in-loop-x c = omega (arith, columns_fit c.before.before.before.before.before.before.before.requires.0 c.before.before.before.before.before.before.before.args.q c.before.before.before.before.before.before.before.requires.1, c.before.before.before.before.before.before.before.well_formed)
 
-loop_less : tie.Need-loop-smaller invariant_loop decreases_loop
-loop_less c = omega arith
+loop-x-smaller : tie.Need-loop-x-smaller invariant-loop-x decreases-loop-x
+loop-x-smaller c = omega arith
 
-loop_again : tie.Need-loop-preserved invariant_loop decreases_loop
-loop_again c = (sym (next_part c.before.before.before.before.before.before.before.requires.0 c.before.before.before.before.before.before.before.args.q c.before.before.before.loop.x 8 c.before.before.before.loop.invariant.0 c.before.part-ok.ensures) ∙ not-false _ c.if1.false, c.before.before.loop-test.true)
+loop-x-preserved : tie.Need-loop-x-preserved invariant-loop-x decreases-loop-x
+loop-x-preserved c = (sym (next_part c.before.before.before.before.before.before.before.requires.0 c.before.before.before.before.before.before.before.args.q c.before.before.before.loop-x.x 8 c.before.before.before.loop-x.invariant.0 c.before.part_ok.ensures) ∙ not-false _ c.if-not-part_ok.false-raw, c.before.before.loop-x-test.true)
 
-names-ok-requires : tie.Need-names-ok-requires invariant_loop decreases_loop
-names-ok-requires c κs = (c.before.before.before.before.before.requires.0, omega (arith, columns_fit c.before.before.before.before.before.requires.0 c.before.before.before.before.before.args.q c.before.before.before.before.before.requires.1))
+names_ok-requires : tie.Need-names_ok-requires invariant-loop-x decreases-loop-x
+names_ok-requires c κs = (c.before.before.before.before.before.requires.0, omega (arith, columns_fit c.before.before.before.before.before.requires.0 c.before.before.before.before.before.args.q c.before.before.before.before.before.requires.1))
 
-returns_2 : tie.Need-returns-2 invariant_loop decreases_loop
-returns_2 c = last_part c.before.before.before.before.before.before.requires.0 c.before.before.before.before.before.before.args.q c.before.before.loop.x c.before.before.loop.invariant.1 c.before.before.loop.invariant.0 c.names-ok.ensures
+returns : tie.Need-returns invariant-loop-x decreases-loop-x
+returns c = last_part c.before.before.before.before.before.before.requires.0 c.before.before.before.before.before.before.args.q c.before.before.loop-x.x c.before.before.loop-x.invariant.1 c.before.before.loop-x.invariant.0 c.names_ok.ensures
 
-pub row-names-ok-spec : {M : Type 1} → statement M
-row-names-ok-spec = tie.close (tie.spec invariant_loop decreases_loop mul-from add-from loop_holds add-loop part-ok-requires returns add-x loop_less loop_again (λ c. search rules) names-ok-requires returns_2)
+pub row_names_ok_spec : {M : Type 1} → statement M
+row_names_ok_spec = tie.close (tie.spec invariant-loop-x decreases-loop-x overflow_mul-from overflow_add-from loop-x-init overflow_add-x part_ok-requires returns-then-not-part_ok overflow_add-x-in-loop-x loop-x-smaller loop-x-preserved (λ c. search rules) names_ok-requires returns)

@@ -6,5 +6,5 @@ use Rattle.exploration.proofs.all.Tie as tie
 returns : tie.Need-returns
 returns c = λ m. all_has c.args.n m c.requires.1
 
-pub all-spec : {M : Type 1} → statement M
-all-spec = tie.close (tie.spec (λ c. search rules) (λ c. search rules) returns)
+pub all_spec : {M : Type 1} → statement M
+all_spec = tie.close (tie.spec (λ c. search rules) (λ c. search rules) returns)

@@ -6,5 +6,5 @@ use Rattle.exploration.proofs.begin.Tie as tie
 returns : tie.Need-returns
 returns c = λ t line pa. reaches_start pa line c.args.second.now _ c.requires
 
-pub begin-spec : {M : Type 1} → statement M
-begin-spec = tie.close (tie.spec (λ c. search rules) (λ c. search rules) returns)
+pub begin_spec : {M : Type 1} → statement M
+begin_spec = tie.close (tie.spec (λ c. search rules) (λ c. search rules) returns)

@@ -10,66 +10,66 @@ use Rattle.items.proofs.ShiftLaws.{Shifting, shift_start, shift_more, shifted}
 use Rattle.items.proofs.advance.Statement.{statement}
 use Rattle.items.proofs.advance.Tie as tie
 
-abbrev invariant_loop : tie.invariant-loop
-invariant_loop s m t₀ carry₀ i₀ t carry i = Shifting s m t carry i
+abbrev invariant-loop-i : tie.invariant-loop-i
+invariant-loop-i s m t₀ carry₀ i₀ t carry i = Shifting s m t carry i
 
-abbrev decreases_loop : tie.decreases-loop
-decreases_loop s m t₀ carry₀ i₀ t carry i = set_size - i
+abbrev decreases-loop-i : tie.decreases-loop-i
+decreases-loop-i s m t₀ carry₀ i₀ t carry i = set_size - i
 
-loop_holds : tie.Need-loop-init invariant_loop decreases_loop
-loop_holds c = shift_start _ _ _ refl
+loop-i-init : tie.Need-loop-i-init invariant-loop-i decreases-loop-i
+loop-i-init c = shift_start _ _ _ refl
 
-mul-v : tie.Need-overflow-mul-v invariant_loop decreases_loop
-mul-v c = search rules
+offset_bounds-s-i : tie.Need-offset_bounds-s-i invariant-loop-i decreases-loop-i
+offset_bounds-s-i c = search rules
 
-array-read-v : tie.Need-array-read-v invariant_loop decreases_loop
-array-read-v c = search rules
+bounds-s-i : tie.Need-bounds-s-i invariant-loop-i decreases-loop-i
+bounds-s-i c = search rules
 
-mul-v-2 : tie.Need-overflow-mul-v-2 invariant_loop decreases_loop
-mul-v-2 c = search rules
+offset_bounds-m-i : tie.Need-offset_bounds-m-i invariant-loop-i decreases-loop-i
+offset_bounds-m-i c = search rules
 
-array-read-v-2 : tie.Need-array-read-v-2 invariant_loop decreases_loop
-array-read-v-2 c = search rules
+bounds-m-i : tie.Need-bounds-m-i invariant-loop-i decreases-loop-i
+bounds-m-i c = search rules
 
-mul-t : tie.Need-overflow-mul-t invariant_loop decreases_loop
-mul-t c = search rules
+offset_bounds-t-i : tie.Need-offset_bounds-t-i invariant-loop-i decreases-loop-i
+offset_bounds-t-i c = search rules
 
-array-write-t : tie.Need-array-write-t invariant_loop decreases_loop
-array-write-t c = search rules
+bounds-t-i : tie.Need-bounds-t-i invariant-loop-i decreases-loop-i
+bounds-t-i c = search rules
 
-add_i : tie.Need-overflow-add-i invariant_loop decreases_loop
-add_i c = search rules
+overflow_add-i : tie.Need-overflow_add-i invariant-loop-i decreases-loop-i
+overflow_add-i c = search rules
 
-loop_less : tie.Need-loop-smaller invariant_loop decreases_loop
-loop_less c = search rules
+loop-i-smaller : tie.Need-loop-i-smaller invariant-loop-i decreases-loop-i
+loop-i-smaller c = search rules
 
-loop_again : tie.Need-loop-preserved invariant_loop decreases_loop
-loop_again c =
-    let loop = c.before.loop in
-    let loop-test = c.loop-test in
+loop-i-preserved : tie.Need-loop-i-preserved invariant-loop-i decreases-loop-i
+loop-i-preserved c =
+    let loop = c.before.loop-i in
+    let loop-test = c.loop-i-test in
     shift_more _ _ _ _ _ loop.invariant loop-test.true
 
-returns : tie.Need-returns invariant_loop decreases_loop
+returns : tie.Need-returns invariant-loop-i decreases-loop-i
 returns c =
     let args = c.before.before.args in
-    let loop = c.before.loop in
+    let loop = c.before.loop-i in
     let e : loop.i ≡ set_size = omega (arith, loop.invariant.most) in
-    shifted args.t1 args.t2 _ (λ k. let f : Fits w64 (get_or args.t1 k 0) = search rules in f.fits) _ (rw e at loop.invariant)
+    shifted args.s args.m _ (λ k. let f : Fits w64 (get_or args.s k 0) = search rules in f.fits) _ (rw e at loop.invariant)
 
-pub advance-spec : {M : Type 1} → statement M
-advance-spec =
+pub advance_spec : {M : Type 1} → statement M
+advance_spec =
     tie.close
     (tie.spec
-    invariant_loop
-    decreases_loop
-    loop_holds
-    mul-v
-    array-read-v
-    mul-v-2
-    array-read-v-2
-    mul-t
-    array-write-t
-    add_i
-    loop_less
-    loop_again
+    invariant-loop-i
+    decreases-loop-i
+    loop-i-init
+    offset_bounds-s-i
+    bounds-s-i
+    offset_bounds-m-i
+    bounds-m-i
+    offset_bounds-t-i
+    bounds-t-i
+    overflow_add-i
+    loop-i-smaller
+    loop-i-preserved
     returns)

@@ -15,20 +15,20 @@ sized : (ws : List ℕ) (i : ℕ) → set ws (i / 64) (bit_or (get_or ws (i / 64
 unfolding put
 sized ws i = rw (one_shl 64 (i % 64) (omega arith))
 
-mul-t : tie.Need-overflow-mul-t
-mul-t c = search rules
+offset_bounds-t-i : tie.Need-offset_bounds-t-i
+offset_bounds-t-i c = search rules
 
-array-read-t : tie.Need-array-read-t
-array-read-t c = search rules
+bounds-t-i : tie.Need-bounds-t-i
+bounds-t-i c = search rules
 
-shl-t : tie.Need-overflow-shl-t
-shl-t c = search rules
+overflow_shl-t : tie.Need-overflow_shl-t
+overflow_shl-t c = search rules
 
-mul-t-2 : tie.Need-overflow-mul-t-2
-mul-t-2 c = search rules
+offset_bounds-t-i-2 : tie.Need-offset_bounds-t-i-2
+offset_bounds-t-i-2 c = search rules
 
-array-write-t : tie.Need-array-write-t
-array-write-t c = search rules
+bounds-t-i-2 : tie.Need-bounds-t-i-2
+bounds-t-i-2 c = search rules
 
 returns : tie.Need-returns
 returns c =
@@ -36,5 +36,5 @@ returns c =
     let l : length c.args.s ≡ set_size = search rules in
     record { words = e; items = λ k. ap (λ (ws : List ℕ). item ws k) e ∙ item_put c.args.s c.args.i k (omega arith) }
 
-pub with-spec : {M : Type 1} → statement M
-with-spec = tie.close (tie.spec mul-t array-read-t shl-t mul-t-2 array-write-t returns)
+pub with_spec : {M : Type 1} → statement M
+with_spec = tie.close (tie.spec offset_bounds-t-i bounds-t-i overflow_shl-t offset_bounds-t-i-2 bounds-t-i-2 returns)

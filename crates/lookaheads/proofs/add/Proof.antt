@@ -7,62 +7,62 @@ use borrow.Author.Rules.{rules}
 use Rattle.lookaheads.proofs.add.Statement.{statement}
 use Rattle.lookaheads.proofs.add.Tie as tie
 
-wide32-requires : tie.Need-wide32-requires
-wide32-requires c κs = search rules
+wide32-i-requires : tie.Need-wide32-i-requires
+wide32-i-requires c κs = search rules
 
-mul-i : tie.Need-overflow-mul-i
-mul-i c = search rules
+overflow_mul-i : tie.Need-overflow_mul-i
+overflow_mul-i c = search rules
 
-array-read-t : tie.Need-array-read-t
-array-read-t c = search rules
+bounds-s-0 : tie.Need-bounds-s-0
+bounds-s-0 c = search rules
 
-mul-t : tie.Need-overflow-mul-t
-mul-t c = search rules
+offset_bounds-keyed-i : tie.Need-offset_bounds-keyed-i
+offset_bounds-keyed-i c = search rules
 
-element-copy-out-t : tie.Need-element-copy-out-t
-element-copy-out-t c = search rules
+bounds-keyed-i : tie.Need-bounds-keyed-i
+bounds-keyed-i c = search rules
 
-array-write-t : tie.Need-array-write-t
-array-write-t c = search rules
+bounds-t-0 : tie.Need-bounds-t-0
+bounds-t-0 c = search rules
 
-array-read-t-2 : tie.Need-array-read-t-2
-array-read-t-2 c = search rules
+bounds-s-1 : tie.Need-bounds-s-1
+bounds-s-1 c = search rules
 
-add-t : tie.Need-overflow-add-t
-add-t c = search rules
+overflow_add-t : tie.Need-overflow_add-t
+overflow_add-t c = search rules
 
-mul-t-2 : tie.Need-overflow-mul-t-2
-mul-t-2 c = search rules
+offset_bounds-keyed-i-then-v-lt256 : tie.Need-offset_bounds-keyed-i-then-v-lt256
+offset_bounds-keyed-i-then-v-lt256 c = search rules
 
-element-copy-out-t-2 : tie.Need-element-copy-out-t-2
-element-copy-out-t-2 c = search rules
+bounds-keyed-i-then-v-lt256 : tie.Need-bounds-keyed-i-then-v-lt256
+bounds-keyed-i-then-v-lt256 c = search rules
 
-array-write-t-2 : tie.Need-array-write-t-2
-array-write-t-2 c = search rules
+bounds-t-1 : tie.Need-bounds-t-1
+bounds-t-1 c = search rules
 
-returns : tie.Need-returns
-returns c =
-    let p = c.before.before.before.before.args in
-    let l : length p.t1 ≡ 2 = search rules in
-    added_some p.keyed.now p.t1 p.v _ l (ap (λ (x : ℕ). 2 * x) c.before.before.wide32.ensures) _ refl
+returns-then-v-lt256 : tie.Need-returns-then-v-lt256
+returns-then-v-lt256 c =
+    let p = c.before.before.before.before.before.args in
+    let l : length p.s ≡ 2 = search rules in
+    added_some p.keyed.now p.s p.v _ l (ap (λ (x : ℕ). 2 * x) c.before.before.before.wide32-i.ensures) _ refl
 
-returns_2 : tie.Need-returns-2
-returns_2 c = added_none _ _ _ c.if1.false
+returns-else-v-lt256 : tie.Need-returns-else-v-lt256
+returns-else-v-lt256 c = added_none _ _ _ c.if-v-lt256.false
 
 pub add_spec : {M : Type 1} → statement M
 add_spec =
     tie.close
     (tie.spec
-    wide32-requires
-    mul-i
-    array-read-t
-    mul-t
-    element-copy-out-t
-    array-write-t
-    array-read-t-2
-    add-t
-    mul-t-2
-    element-copy-out-t-2
-    array-write-t-2
-    returns
-    returns_2)
+    wide32-i-requires
+    overflow_mul-i
+    bounds-s-0
+    offset_bounds-keyed-i
+    bounds-keyed-i
+    bounds-t-0
+    bounds-s-1
+    overflow_add-t
+    offset_bounds-keyed-i-then-v-lt256
+    bounds-keyed-i-then-v-lt256
+    bounds-t-1
+    returns-then-v-lt256
+    returns-else-v-lt256)

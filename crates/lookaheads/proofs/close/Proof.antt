@@ -4,16 +4,16 @@ use Rattle.lookaheads.specs.Outcome.{Closed}
 use Rattle.lookaheads.proofs.close.Statement.{statement}
 use Rattle.lookaheads.proofs.close.Tie as tie
 
-returns : tie.Need-returns
-returns c =
+returns-in-Free : tie.Need-returns-in-Free
+returns-in-Free c =
     let b2 = c.before.before in
-    let e = b2.before.before.enum_told.given.1 in
+    let e = b2.before.before.in-Free.is in
     (sym e, subst (Closed _ _ _ _ _) (sym e) b2.finish.ensures)
 
-returns_2 : tie.Need-returns-2
-returns_2 c =
+returns-in-At : tie.Need-returns-in-At
+returns-in-At c =
     let b2 = c.before.before in
-    let e = b2.before.before.before.r.given.1 in
+    let e = b2.before.before.in-At.is in
     (sym e, subst (Closed _ _ _ _ _) (sym e) b2.clear16.ensures)
 
 pub close_spec : {M : Type 1} → statement M
@@ -25,6 +25,6 @@ close_spec =
     (λ c. search rules)
     (λ c κs. search rules)
     (λ c. search rules)
-    returns
+    returns-in-Free
     (λ c. search rules)
-    returns_2)
+    returns-in-At)

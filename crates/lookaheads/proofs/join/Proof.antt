@@ -6,22 +6,22 @@ use Rattle.lookaheads.proofs.join.Tie as tie
 index-requires : tie.Need-index-requires
 index-requires c κs = search rules
 
-wide32-requires : tie.Need-wide32-requires
-wide32-requires c κs = search rules
+wide32-i-requires : tie.Need-wide32-i-requires
+wide32-i-requires c κs = search rules
 
-mul-result : tie.Need-overflow-mul-result
-mul-result c = search rules
+offset_bounds-z-i : tie.Need-offset_bounds-z-i
+offset_bounds-z-i c = search rules
 
-shared-slice-read-result : tie.Need-shared-slice-read-result
-shared-slice-read-result c = search rules
+bounds-z-i : tie.Need-bounds-z-i
+bounds-z-i c = search rules
+
+returns-then-i : tie.Need-returns-then-i
+returns-then-i c = λ d k o. joins_some d _ _ k _ _ _ _ _ o c.before.before.wide32-i.ensures (c.before.before.before.index.ensures d k o) c.before.if-i.true
 
 returns : tie.Need-returns
-returns c = λ d k o. joins_some d _ _ k _ _ _ _ _ o c.before.before.wide32.ensures (c.before.before.before.index.ensures d k o) c.before.if1.true
+returns c = λ d k o. joins_none d _ _ k _ _ _ _ _ o c.before.wide32-i.ensures (c.before.before.index.ensures d k o) c.if-i.false
 
-returns_2 : tie.Need-returns-2
-returns_2 c = λ d k o. joins_none d _ _ k _ _ _ _ _ o c.before.wide32.ensures (c.before.before.index.ensures d k o) c.if1.false
-
-pub join-spec : {M : Type 1} → statement M
-join-spec =
+pub join_spec : {M : Type 1} → statement M
+join_spec =
     tie.close
-    (tie.spec index-requires wide32-requires (λ c. search rules) mul-result shared-slice-read-result returns returns_2)
+    (tie.spec index-requires wide32-i-requires (λ c. search rules) offset_bounds-z-i bounds-z-i returns-then-i returns)

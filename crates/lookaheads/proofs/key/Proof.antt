@@ -9,20 +9,20 @@ left-requires c κs = search rules
 wider-requires : tie.Need-wider-requires
 wider-requires c κs = search rules
 
-add_result : tie.Need-overflow-add-result
-add_result c = search rules
+overflow_add-result : tie.Need-overflow_add-result
+overflow_add-result c = search rules
 
-returns : tie.Need-returns
-returns c =
+returns-then-d-eq0 : tie.Need-returns-then-d-eq0
+returns-then-d-eq0 c =
     let b1 = c.before in
     let b2 = b1.before in
-    λ eb ed. key_none _ _ _ _ _ ed b2.if1.true b1.left.ensures c.wider.ensures
+    λ eb ed. key_none _ _ _ _ _ ed b2.if-d-eq0.true b1.left.ensures c.wider.ensures
 
-sub-symbol : tie.Need-overflow-sub-symbol
-sub-symbol c = search rules
+overflow_sub-d : tie.Need-overflow_sub-d
+overflow_sub-d c = search rules
 
-add-symbol : tie.Need-overflow-add-symbol
-add-symbol c = search rules
+overflow_add-b : tie.Need-overflow_add-b
+overflow_add-b c = search rules
 
 symbol-requires : tie.Need-symbol-requires
 symbol-requires c κs = search rules
@@ -30,11 +30,11 @@ symbol-requires c κs = search rules
 wider-requires-2 : tie.Need-wider-requires-2
 wider-requires-2 c κs = search rules
 
-returns_2 : tie.Need-returns-2
-returns_2 c =
+returns : tie.Need-returns
+returns c =
     let b1 = c.before in
     let b2 = b1.before in
-    λ eb ed. key_some _ _ _ _ _ _ ed b2.if1.false eb b1.symbol.ensures c.wider2.ensures
+    λ eb ed. key_some _ _ _ _ _ _ ed b2.if-d-eq0.false eb b1.symbol.ensures c.wider-2.ensures
 
 pub key_spec : {M : Type 1} → statement M
 key_spec =
@@ -42,10 +42,10 @@ key_spec =
     (tie.spec
     left-requires
     wider-requires
-    add_result
-    returns
-    sub-symbol
-    add-symbol
+    overflow_add-result
+    returns-then-d-eq0
+    overflow_sub-d
+    overflow_add-b
     symbol-requires
     wider-requires-2
-    returns_2)
+    returns)

@@ -14,8 +14,8 @@ terminals-requires c κs = search rules
 wide-requires : tie.Need-wide-requires
 wide-requires c κs = search rules
 
-add_at : tie.Need-overflow-add-at
-add_at c = let e = c.before.before.row.ensures in omega (arith, e, c.before.before.before.before.before.requires)
+overflow_add-row : tie.Need-overflow_add-row
+overflow_add-row c = let e = c.before.before.row.ensures in omega (arith, e, c.before.before.before.before.before.requires)
 
 at-requires : tie.Need-at-requires
 at-requires c κs = search rules
@@ -27,6 +27,6 @@ returns c =
     let b3 = b2.before in
     c.at.ensures ∙ cell_at b3.before.before.before.args.t.now b3.row.ensures (b1.wide.ensures ∙ b2.terminals.ensures)
 
-pub target-spec : {M : Type 1} → statement M
-target-spec =
-    tie.close (tie.spec row-requires terminals-requires wide-requires add_at at-requires returns)
+pub target_spec : {M : Type 1} → statement M
+target_spec =
+    tie.close (tie.spec row-requires terminals-requires wide-requires overflow_add-row at-requires returns)

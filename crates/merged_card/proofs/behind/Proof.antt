@@ -5,8 +5,8 @@ use borrow.Author.Rules.{rules}
 use Rattle.merged_card.proofs.behind.Statement.{statement}
 use Rattle.merged_card.proofs.behind.Tie as tie
 
-pub behind-spec : {M : Type 1} → statement M
-behind-spec =
+pub behind_spec : {M : Type 1} → statement M
+behind_spec =
     tie.close
     (tie.spec
     (λ c κs. search rules)

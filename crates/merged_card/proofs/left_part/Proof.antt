@@ -5,8 +5,8 @@ use borrow.Author.Rules.{rules}
 use Rattle.merged_card.proofs.left_part.Statement.{statement}
 use Rattle.merged_card.proofs.left_part.Tie as tie
 
-pub left-part-spec : {M : Type 1} → statement M
-left-part-spec =
+pub left_part_spec : {M : Type 1} → statement M
+left_part_spec =
     tie.close
     (tie.spec
     (λ c κs. search rules)

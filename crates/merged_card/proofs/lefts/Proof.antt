@@ -9,10 +9,10 @@ returns c =
     let b1 = c.before in
     let b2 = b1.before in
     let b3 = b2.before in
-    lefts_given _ _ b3.before.before.before.requires b3.terminals.ensures b2.behind.ensures b1.left-part.ensures c.left-part2.ensures
+    lefts_given _ _ b3.before.before.before.requires b3.terminals-t.ensures b2.behind-k.ensures b1.left_part.ensures c.left_part-2.ensures
 
-pub lefts-spec : {M : Type 1} → statement M
-lefts-spec =
+pub lefts_spec : {M : Type 1} → statement M
+lefts_spec =
     tie.close
     (tie.spec
     (λ c κs. search rules)

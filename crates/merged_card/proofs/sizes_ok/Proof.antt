@@ -5,10 +5,10 @@ use Rattle.merged_card.proofs.sizes_ok.Statement.{statement}
 use Rattle.merged_card.proofs.sizes_ok.Tie as tie
 
 returns : tie.Need-returns
-returns c = sizes_told _ _ c.before.before.before.sums.ensures c.before.before.before.before.before.before.requires
+returns c = sizes_told _ _ c.before.before.before.sums-s.ensures c.before.before.before.before.before.before.requires
 
-pub sizes-ok-spec : {M : Type 1} → statement M
-sizes-ok-spec =
+pub sizes_ok_spec : {M : Type 1} → statement M
+sizes_ok_spec =
     tie.close
     (tie.spec
     (λ c κs. search rules)

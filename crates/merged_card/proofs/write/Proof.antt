@@ -6,55 +6,55 @@ use Rattle.merged_card.proofs.write.Tie as tie
 
 -- ---- the way back, call by call
 
-abbrev lengths-of : tie.After-array2 → tie.After-lengths
+abbrev lengths-of : tie.After-array-j → tie.After-lengths
 lengths-of c = c.before.before
 
-abbrev array_of : tie.After-lengths → tie.After-array
+abbrev array_of : tie.After-lengths → tie.After-array-i
 array_of l = l.before.before.before
 
-abbrev lefts-of : tie.After-array → tie.After-lefts
+abbrev lefts-of : tie.After-array-i → tie.After-lefts
 lefts-of r = r.before.before
 
 abbrev header_of : tie.After-lefts → tie.After-header
 header_of l = l.before.before.before
 
-abbrev terminals-of : tie.After-lefts → tie.After-terminals
+abbrev terminals-of : tie.After-lefts → tie.After-terminals-t
 terminals-of l = (header_of l).before.before
 
 abbrev start : tie.After-lefts → tie.Start
 start l = (terminals-of l).before.before.before.before
 
-array-requires : tie.Need-array-requires
-array-requires c κs =
+array-i-requires : tie.Need-array-i-requires
+array-i-requires c κs =
     let l = c.before in
-    lefts_asked _ _ (terminals-of l).terminals.ensures (start l).args.out.now (start l).requires (header_of l).header.ensures l.lefts.ensures
+    lefts_asked _ _ (terminals-of l).terminals-t.ensures (start l).args.out.now (start l).requires (header_of l).header.ensures l.lefts.ensures
 
-array-requires-2 : tie.Need-array-requires-2
-array-requires-2 c κs =
+array-j-requires : tie.Need-array-j-requires
+array-j-requires c κs =
     let n = c.before in
     let l = lefts-of (array_of n) in
-    lengths_asked _ _ (terminals-of l).terminals.ensures (start l).args.out.now (start l).pre (header_of l).header.ensures l.lefts.ensures (array_of n).array.ensures n.lengths.ensures
+    lengths_asked _ _ (terminals-of l).terminals-t.ensures (start l).args.out.now (start l).requires (header_of l).header.ensures l.lefts.ensures (array_of n).array-i.ensures n.lengths.ensures
 
 rights-requires : tie.Need-rights-requires
 rights-requires c κs =
     let n = lengths-of c.before.before in
     (start (lefts-of (array_of n))).requires.alike
 
-array-requires-3 : tie.Need-array-requires-3
-array-requires-3 c κs =
+array-requires : tie.Need-array-requires
+array-requires c κs =
     let d = c.before.before.before.before in
     let n = lengths-of d in
     let l = lefts-of (array_of n) in
-    symbols_asked _ _ (terminals-of l).terminals.ensures (start l).args.out.now (start l).pre (header_of l).header.ensures l.lefts.ensures (array_of n).array.ensures n.lengths.ensures d.array2.ensures c.before.rights.ensures
+    symbols_asked _ _ (terminals-of l).terminals-t.ensures (start l).args.out.now (start l).requires (header_of l).header.ensures l.lefts.ensures (array_of n).array-i.ensures n.lengths.ensures d.array-j.ensures c.before.rights.ensures
 
-same_length : tie.Need-same-length
-same_length c =
+shape_of-out : tie.Need-shape_of-out
+shape_of-out c =
     let e = c.before.before in
     let d = e.before.before.before.before.before in
     let n = lengths-of d in
     let l = lefts-of (array_of n) in
-    whole_length _ _ (terminals-of l).terminals.ensures (start l).args.out.now (start l).pre (header_of l).header.ensures l.lefts.ensures (array_of n).array.ensures n.lengths.ensures d.array2.ensures
-    e.before.before.rights.ensures e.array3.ensures.1
+    whole_length _ _ (terminals-of l).terminals-t.ensures (start l).args.out.now (start l).requires (header_of l).header.ensures l.lefts.ensures (array_of n).array-i.ensures n.lengths.ensures d.array-j.ensures
+    e.before.before.rights.ensures e.array.ensures.1
 
 returns : tie.Need-returns
 returns c =
@@ -62,8 +62,8 @@ returns c =
     let d = e.before.before.before.before.before in
     let n = lengths-of d in
     let l = lefts-of (array_of n) in
-    whole_written _ _ (terminals-of l).terminals.ensures (start l).args.out.now (start l).pre (header_of l).header.ensures l.lefts.ensures (array_of n).array.ensures n.lengths.ensures d.array2.ensures
-    e.before.before.rights.ensures e.array3.ensures.1
+    whole_written _ _ (terminals-of l).terminals-t.ensures (start l).args.out.now (start l).requires (header_of l).header.ensures l.lefts.ensures (array_of n).array-i.ensures n.lengths.ensures d.array-j.ensures
+    e.before.before.rights.ensures e.array.ensures.1
 
 pub write_spec : {M : Type 1} → statement M
 write_spec =
@@ -72,10 +72,10 @@ write_spec =
     (λ c κs. search rules)
     (λ c κs. search rules)
     (λ c κs. search rules)
-    array-requires
+    array-i-requires
     (λ c κs. search rules)
-    array-requires-2
+    array-j-requires
     rights-requires
-    array-requires-3
-    same_length
+    array-requires
+    shape_of-out
     returns)

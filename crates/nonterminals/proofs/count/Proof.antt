@@ -9,25 +9,25 @@ use Rattle.nonterminals.proofs.LengthLaws.{count_terminal, count_nonterminal}
 use Rattle.nonterminals.proofs.count.Statement.{statement}
 use Rattle.nonterminals.proofs.count.Tie as tie
 
+returns-then-x-t : tie.Need-returns-then-x-t
+returns-then-x-t c =
+    let start = c.before.before.before.before in
+    (sym (count_terminal start.args.c.now start.args.e.now (symbol_of start.args.c.now start.args.k) (omega (arith, c.if-x-t.true, c.before.terminals-t.ensures, c.before.before.symbol-x.ensures))), omega arith)
+
+bounds-e-wide : tie.Need-bounds-e-wide
+bounds-e-wide c =
+    let start = c.before.before.before.before.before in
+    let w = well_formed _ start.before.requires.0 in
+    omega (arith, c.before.wide.ensures, c.before.before.if-x-t.false, c.before.before.before.terminals-t.ensures, c.before.before.before.before.symbol-x.ensures, w.limits.nonterminals_to, (w.rights start.before.args.k start.before.requires.1).1)
+
 returns : tie.Need-returns
 returns c =
-    let start = c.before.before.before.before in
-    (sym (count_terminal start.args.c.now start.args.e.now (symbol_of start.args.c.now start.args.k) (omega (arith, c.if1.true, c.before.terminals.ensures, c.before.before.symbol.ensures))), omega arith)
-
-element-copy-out-wider : tie.Need-element-copy-out-wider
-element-copy-out-wider c =
-    let start = c.before.before.before.before.before in
-    let w = well_formed _ start.requires.0 in
-    omega (arith, c.wide.ensures, c.before.if1.false, c.before.before.terminals.ensures, c.before.before.before.symbol.ensures, w.limits.nonterminals_to, (w.rights start.args.k start.requires.1).1)
-
-returns_2 : tie.Need-returns-2
-returns_2 c =
     let start = c.before.before.before.before.before.before.before in
-    let x = symbol_of start.args.c.now start.args.k in
-    let j : c.before.before.wide.result ≡ symbol_of start.args.c.now start.args.k - terminals start.args.c.now =
-    omega (arith, c.before.before.wide.ensures, c.before.before.before.before.terminals.ensures, c.before.before.before.before.before.symbol.ensures) in
-    let e : c.wider.result ≡ get_or start.args.e.now (symbol_of start.args.c.now start.args.k - terminals start.args.c.now) 0 = c.wider.ensures ∙ ap (λ (i : ℕ). get_or start.args.e.now i 0) j in
-    (e ∙ sym (count_nonterminal start.args.c.now start.args.e.now x (omega (arith, c.before.before.before.if1.false, c.before.before.before.before.terminals.ensures, c.before.before.before.before.before.symbol.ensures))), rw e (start.requires.2.most _))
+    let x = symbol_of start.before.args.c.now start.before.args.k in
+    let j : c.before.before.before.wide.result ≡ symbol_of start.before.args.c.now start.before.args.k - terminals start.before.args.c.now =
+    omega (arith, c.before.before.before.wide.ensures, c.before.before.before.before.before.terminals-t.ensures, c.before.before.before.before.before.before.symbol-x.ensures) in
+    let e : c.wider.result ≡ get_or start.before.args.e.now (symbol_of start.before.args.c.now start.before.args.k - terminals start.before.args.c.now) 0 = c.wider.ensures ∙ ap (λ (i : ℕ). get_or start.before.args.e.now i 0) j in
+    (e ∙ sym (count_nonterminal start.before.args.c.now start.before.args.e.now x (omega (arith, c.before.before.before.before.if-x-t.false, c.before.before.before.before.before.terminals-t.ensures, c.before.before.before.before.before.before.symbol-x.ensures))), rw e (start.before.requires.2.most _))
 
 pub count_spec : {M : Type 1} → statement M
 count_spec =
@@ -35,9 +35,9 @@ count_spec =
     (tie.spec
     (λ c κs. search rules)
     (λ c κs. search rules)
-    returns
+    returns-then-x-t
     (λ c κs. search rules)
     (λ c. search rules)
-    element-copy-out-wider
+    bounds-e-wide
     (λ c κs. search rules)
-    returns_2)
+    returns)

@@ -14,5 +14,5 @@ word-requires c κs =
 returns : tie.Need-returns
 returns c = rw (c.word.ensures, c.before.left.ensures)
 
-pub left-spec : {M : Type 1} → statement M
-left-spec = tie.close (tie.spec left-requires word-requires returns)
+pub left_spec : {M : Type 1} → statement M
+left_spec = tie.close (tie.spec left-requires word-requires returns)

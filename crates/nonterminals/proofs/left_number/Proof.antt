@@ -10,8 +10,8 @@ use Rattle.nonterminals.proofs.left_number.Tie as tie
 inside : (c : tie.After-terminals) → (terminals c.before.before.before.args.c.now ≤ left_of c.before.before.before.args.c.now c.before.before.before.args.r) × (left_of c.before.before.before.args.c.now c.before.before.before.args.r < terminals c.before.before.before.args.c.now + nonterminals c.before.before.before.args.c.now)
 inside c = let start = c.before.before.before in (well_formed _ start.requires.0).lefts start.args.r start.requires.1
 
-sub_wide : tie.Need-overflow-sub-wide
-sub_wide c = omega (arith, (inside c).0, c.terminals.ensures, c.before.left.ensures)
+overflow_sub-left : tie.Need-overflow_sub-left
+overflow_sub-left c = omega (arith, (inside c).0, c.terminals.ensures, c.before.left.ensures)
 
 returns : tie.Need-returns
 returns c =
@@ -20,6 +20,6 @@ returns c =
     let l = c.before.before.left.ensures in
     (omega (arith, c.wide.ensures, e, l), omega (arith, c.wide.ensures, e, l, (inside c.before).1, (well_formed _ start.requires.0).limits.nonterminals_to))
 
-pub left-number-spec : {M : Type 1} → statement M
-left-number-spec =
-    tie.close (tie.spec (λ c κs. search rules) (λ c κs. search rules) sub_wide (λ c κs. search rules) returns)
+pub left_number_spec : {M : Type 1} → statement M
+left_number_spec =
+    tie.close (tie.spec (λ c κs. search rules) (λ c κs. search rules) overflow_sub-left (λ c κs. search rules) returns)

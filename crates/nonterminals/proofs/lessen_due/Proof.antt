@@ -14,13 +14,13 @@ lessen-requires c κs =
     let pre = c.before.before.before.before.requires in
     (pre.0, pre.1, pre.2, pre.3)
 
+returns-then-due : tie.Need-returns-then-due
+returns-then-due c = looked c.lessen.ensures
+
 returns : tie.Need-returns
-returns c = looked c.lessen.ensures
-
-returns_2 : tie.Need-returns-2
-returns_2 c =
+returns c =
     let pre = c.before.before.before.requires in
-    passed_over (λ d. false≢true (sym c.if1.false ∙ c.before.due.ensures _ _ pre.4 pre.1 d)) refl refl
+    passed_over (λ d. false≢true (sym c.if-due.false ∙ c.before.due.ensures _ _ pre.4 pre.1 d)) refl refl
 
-pub lessen-due-spec : {M : Type 1} → statement M
-lessen-due-spec = tie.close (tie.spec due-requires lessen-requires returns returns_2)
+pub lessen_due_spec : {M : Type 1} → statement M
+lessen_due_spec = tie.close (tie.spec due-requires lessen-requires returns-then-due returns)

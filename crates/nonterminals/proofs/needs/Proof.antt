@@ -8,30 +8,30 @@ use Rattle.nonterminals.specs.Gathering.{needs_of}
 use Rattle.nonterminals.proofs.needs.Statement.{statement}
 use Rattle.nonterminals.proofs.needs.Tie as tie
 
-element-copy-out-result : tie.Need-element-copy-out-result
-element-copy-out-result c =
+bounds-v-wide : tie.Need-bounds-v-wide
+bounds-v-wide c =
+    let start = c.before.before.before in
+    omega (arith, c.before.wide.ensures, start.before.requires.1, (well_formed _ start.before.requires.0).limits.productions_to)
+
+returns-in-Productive : tie.Need-returns-in-Productive
+unfolding needs_of
+returns-in-Productive c =
     let start = c.before.before.before.before in
-    omega (arith, c.wide.ensures, start.requires.1, (well_formed _ start.requires.0).limits.productions_to)
+    rw c.before.before.before.in-Productive.is (ap (λ (i : ℕ). get_or start.before.args.v.now i 0) c.before.before.wide.ensures ∙ start.before.requires.2.words start.before.args.r start.before.requires.1)
 
-returns : tie.Need-returns
+returns-in-Reachable : tie.Need-returns-in-Reachable
 unfolding needs_of
-returns c =
-    let start = c.before.before.before.before.before in
-    rw c.before.before.enum_told.given.1 (ap (λ (i : ℕ). get_or start.args.v.now i 0) c.before.wide.ensures ∙ start.requires.2.words start.args.r start.requires.1)
+returns-in-Reachable c = rw c.before.in-Reachable.is c.left.ensures
 
-returns_2 : tie.Need-returns-2
-unfolding needs_of
-returns_2 c = rw c.before.enum-told2.given.1 c.left.ensures
-
-pub needs-spec : {M : Type 1} → statement M
-needs-spec =
+pub needs_spec : {M : Type 1} → statement M
+needs_spec =
     tie.close
     (tie.spec
     (λ c. search rules)
     (λ c κs. search rules)
     (λ c. search rules)
-    element-copy-out-result
+    bounds-v-wide
     (λ c. search rules)
     (λ c κs. search rules)
-    returns
-    returns_2)
+    returns-in-Productive
+    returns-in-Reachable)

@@ -9,5 +9,5 @@ settled-requires c κs = (c.before.requires.0, c.before.requires.1, λ j e. absu
 returns : tie.Need-returns
 returns c = productive_set _ c.before.before.requires.0 c.settled.ensures
 
-pub productive-spec : {M : Type 1} → statement M
-productive-spec = tie.close (tie.spec settled-requires returns)
+pub productive_spec : {M : Type 1} → statement M
+productive_spec = tie.close (tie.spec settled-requires returns)

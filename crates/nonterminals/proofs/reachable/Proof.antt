@@ -8,5 +8,5 @@ settled-requires c κs = (c.before.requires.0, c.before.requires.1, start_sound 
 returns : tie.Need-returns
 returns c = reachable_set _ c.before.before.requires.0 c.settled.ensures
 
-pub reachable-spec : {M : Type 1} → statement M
-reachable-spec = tie.close (tie.spec settled-requires returns)
+pub reachable_spec : {M : Type 1} → statement M
+reachable_spec = tie.close (tie.spec settled-requires returns)

@@ -11,58 +11,58 @@ use Rattle.nonterminals.proofs.GatherLaws.{round_start, round_adds, round_keeps}
 use Rattle.nonterminals.proofs.round.Statement.{statement}
 use Rattle.nonterminals.proofs.round.Tie as tie
 
-abbrev invariant_loop : tie.invariant-loop
-invariant_loop c kind v w p t₀ r₀ t r = Round c kind w r t × (r ≤ p)
+abbrev invariant-loop-r : tie.invariant-loop-r
+invariant-loop-r c kind v w p t₀ r₀ t r = Round c kind w r t × (r ≤ p)
 
-abbrev decreases_loop : tie.decreases-loop
-decreases_loop c kind v w p t₀ r₀ t r = p - r
+abbrev decreases-loop-r : tie.decreases-loop-r
+decreases-loop-r c kind v w p t₀ r₀ t r = p - r
 
-loop_holds : tie.Need-loop-init invariant_loop decreases_loop
-loop_holds c =
+loop-r-init : tie.Need-loop-r-init invariant-loop-r decreases-loop-r
+loop-r-init c =
     let start = c.before.before in
     (round_start _ start.requires.0 _ _ start.requires.2, zero-le)
 
-needs-requires : tie.Need-needs-requires invariant_loop decreases_loop
-needs-requires c κs =
+needs-n-requires : tie.Need-needs-n-requires invariant-loop-r decreases-loop-r
+needs-n-requires c κs =
     let start = c.before.before.before.before in
-    (start.requires.0, omega (arith, c.loop-test.true, c.before.before.productions.ensures), start.requires.1)
+    (start.requires.0, omega (arith, c.loop-r-test.true, c.before.before.productions-p.ensures), start.requires.1)
 
-gives-requires : tie.Need-gives-requires invariant_loop decreases_loop
-gives-requires c κs =
+gives-t-requires : tie.Need-gives-t-requires invariant-loop-r decreases-loop-r
+gives-t-requires c κs =
     let start = c.before.before.before.before.before.before in
-    (start.requires.0, omega (arith, c.before.before.loop-test.true, c.before.before.before.before.productions.ensures), start.requires.1)
+    (start.requires.0, omega (arith, c.before.before.loop-r-test.true, c.before.before.before.before.productions-p.ensures), start.requires.1)
 
-loop_again : tie.Need-loop-preserved invariant_loop decreases_loop
-loop_again c =
+loop-r-preserved : tie.Need-loop-r-preserved invariant-loop-r decreases-loop-r
+loop-r-preserved c =
     let start = c.before.before.before.before.before.before in
-    let loop = c.before.before.before.loop in
-    let needs-call = c.before.needs in
-    let h : loop.r < productions start.args.c.now = omega (arith, c.before.before.loop-test.true, c.before.before.before.before.productions.ensures) in
+    let loop = c.before.before.before.loop-r in
+    let needs-call = c.before.needs-n in
+    let h : loop.r < productions start.args.c.now = omega (arith, c.before.before.loop-r-test.true, c.before.before.before.before.productions-p.ensures) in
     let test = within_test needs-call.result loop.t in (
       ⊎_elim
-          (λ w. rw (w.2, w.1.ensures) (round_adds _ start.requires.0 _ _ loop.invariant.0 h (rw needs-call.ensures at (test.yes (eq-eqb _ _ w.0.taken)))))
-          (λ w. rw w.1 (round_keeps _ start.requires.0 _ _ loop.invariant.0 (λ i. w.0.left (eqb-true _ _ (test.so (rw needs-call.ensures i))))))
-          c.if1.branch,
+          (λ w. rw (w.t-is, w.gives-t.ensures) (round_adds _ start.requires.0 _ _ loop.invariant.0 h (rw needs-call.ensures at (test.yes (eq-eqb _ _ w.if-n-t.true)))))
+          (λ w. rw w.t-is (round_keeps _ start.requires.0 _ _ loop.invariant.0 (λ i. w.if-n-t.false (eqb-true _ _ (test.so (rw needs-call.ensures i))))))
+          c.if-n-t.branch-raw,
       omega arith,
     )
 
-returns : tie.Need-returns invariant_loop decreases_loop
+returns : tie.Need-returns invariant-loop-r decreases-loop-r
 returns c =
-    let loop = c.before.loop in
-    let e : loop.r ≡ productions c.before.before.before.before.args.c.now = omega (arith, c.loop-test.false, c.before.before.productions.ensures, loop.invariant.1) in
+    let loop = c.before.loop-r in
+    let e : loop.r ≡ productions c.before.before.before.before.args.c.now = omega (arith, c.loop-r-test.false, c.before.before.productions-p.ensures, loop.invariant.1) in
     rw (← e) loop.invariant.0
 
-pub round-spec : {M : Type 1} → statement M
-round-spec =
+pub round_spec : {M : Type 1} → statement M
+round_spec =
     tie.close
     (tie.spec
-    invariant_loop
-    decreases_loop
+    invariant-loop-r
+    decreases-loop-r
     (λ c κs. search rules)
-    loop_holds
-    needs-requires
-    gives-requires
+    loop-r-init
+    needs-n-requires
+    gives-t-requires
     (λ c. omega arith)
     (λ c. omega arith)
-    loop_again
+    loop-r-preserved
     returns)

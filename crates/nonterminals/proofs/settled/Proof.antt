@@ -6,27 +6,27 @@ use Rattle.nonterminals.proofs.GatherLaws.{round_less}
 use Rattle.nonterminals.proofs.settled.Statement.{statement}
 use Rattle.nonterminals.proofs.settled.Tie as tie
 
-abbrev invariant_loop : tie.invariant-loop
-invariant_loop c kind v w t₀ t = Within w t × Sound c kind t
+abbrev invariant-loop-t : tie.invariant-loop-t
+invariant-loop-t c kind v w t₀ t = Within w t × Sound c kind t
 
-abbrev decreases_loop : tie.decreases-loop
-decreases_loop c kind v w t₀ t = 2 ^ nonterminals c - t
+abbrev decreases-loop-t : tie.decreases-loop-t
+decreases-loop-t c kind v w t₀ t = 2 ^ nonterminals c - t
 
-loop_holds : tie.Need-loop-init invariant_loop decreases_loop
-loop_holds c = (λ m e. e, c.before.requires.2)
+loop-t-init : tie.Need-loop-t-init invariant-loop-t decreases-loop-t
+loop-t-init c = (λ m e. e, c.before.requires.2)
 
-round-requires : tie.Need-round-requires invariant_loop decreases_loop
-round-requires c κs = (c.before.before.requires.0, c.before.before.requires.1, c.loop.invariant.1)
+round-u-requires : tie.Need-round-u-requires invariant-loop-t decreases-loop-t
+round-u-requires c κs = (c.before.before.requires.0, c.before.before.requires.1, c.loop-t.invariant.1)
 
-returns : tie.Need-returns invariant_loop decreases_loop
-returns c = record { more = c.before.before.loop.invariant.0; still = rw c.if1.true at c.before.round.ensures }
+returns-then-u-t : tie.Need-returns-then-u-t invariant-loop-t decreases-loop-t
+returns-then-u-t c = record { more = c.before.before.loop-t.invariant.0; still = rw c.if-u-t.true at c.before.round-u.ensures }
 
-loop_less : tie.Need-loop-smaller invariant_loop decreases_loop
-loop_less c = round_less _ c.before.before.before.before.requires.0 _ _ _ c.before.before.loop.invariant.1 c.before.round.ensures c.if1.false
+loop-t-smaller : tie.Need-loop-t-smaller invariant-loop-t decreases-loop-t
+loop-t-smaller c = round_less _ c.before.before.before.before.requires.0 _ _ _ c.before.before.loop-t.invariant.1 c.before.round-u.ensures c.if-u-t.false
 
-loop_again : tie.Need-loop-preserved invariant_loop decreases_loop
-loop_again c = (λ m e. c.before.round.ensures.more m (c.before.before.loop.invariant.0 m e), c.before.round.ensures.sound)
+loop-t-preserved : tie.Need-loop-t-preserved invariant-loop-t decreases-loop-t
+loop-t-preserved c = (λ m e. c.before.round-u.ensures.more m (c.before.before.loop-t.invariant.0 m e), c.before.round-u.ensures.sound)
 
-pub settled-spec : {M : Type 1} → statement M
-settled-spec =
-    tie.close (tie.spec invariant_loop decreases_loop loop_holds round-requires returns loop_less loop_again)
+pub settled_spec : {M : Type 1} → statement M
+settled_spec =
+    tie.close (tie.spec invariant-loop-t decreases-loop-t loop-t-init round-u-requires returns-then-u-t loop-t-smaller loop-t-preserved)

@@ -4,32 +4,32 @@ use Rattle.nonterminals.proofs.LengthLaws.{first_due, lower_some, lessened_none}
 use Rattle.nonterminals.proofs.shortest.Statement.{statement}
 use Rattle.nonterminals.proofs.shortest.Tie as tie
 
-abbrev invariant_loop : tie.invariant-loop
-invariant_loop c v e₀ w₀ e w = DueBy c e w
+abbrev invariant-loop-v : tie.invariant-loop-v
+invariant-loop-v c v e₀ w₀ e w = DueBy c e w
 
-abbrev decreases_loop : tie.decreases-loop
-decreases_loop c v e₀ w₀ e w = mass e
+abbrev decreases-loop-v : tie.decreases-loop-v
+decreases-loop-v c v e₀ w₀ e w = mass e
 
-loop_holds : tie.Need-loop-init invariant_loop decreases_loop
-loop_holds c = first_due _
+loop-v-init : tie.Need-loop-v-init invariant-loop-v decreases-loop-v
+loop-v-init c = first_due _
 
-lessen-all-requires : tie.Need-lessen-all-requires invariant_loop decreases_loop
-lessen-all-requires c κs =
+lessen_all-u-requires : tie.Need-lessen_all-u-requires invariant-loop-v decreases-loop-v
+lessen_all-u-requires c κs =
     let loop = c.before.before in
-    (loop.before.before.before.requires, loop.before.rights.ensures, loop.loop.invariant)
+    (loop.before.before.before.requires, loop.before.rights-v.ensures, loop.loop-v.invariant)
 
-returns : tie.Need-returns invariant_loop decreases_loop
-returns c =
+returns-then-u-eq0 : tie.Need-returns-then-u-eq0 invariant-loop-v decreases-loop-v
+returns-then-u-eq0 c =
     let start = c.before.before.before.before.before.before.before in
-    lessened_none _ _ _ start.requires c.before.lessen-all.ensures.0 c.if1.true
+    lessened_none _ _ _ start.requires c.before.lessen_all-u.ensures.0 c.if-u-eq0.true
 
-loop_less : tie.Need-loop-smaller invariant_loop decreases_loop
-loop_less c = lower_some c.before.lessen-all.ensures.1 c.if1.false
+loop-v-smaller : tie.Need-loop-v-smaller invariant-loop-v decreases-loop-v
+loop-v-smaller c = lower_some c.before.lessen_all-u.ensures.1 c.if-u-eq0.false
 
-loop_again : tie.Need-loop-preserved invariant_loop decreases_loop
-loop_again c = c.before.lessen-all.ensures.0
+loop-v-preserved : tie.Need-loop-v-preserved invariant-loop-v decreases-loop-v
+loop-v-preserved c = c.before.lessen_all-u.ensures.0
 
-pub shortest-spec : {M : Type 1} → statement M
-shortest-spec =
+pub shortest_spec : {M : Type 1} → statement M
+shortest_spec =
     tie.close
-    (tie.spec invariant_loop decreases_loop (λ c κs. search rules) loop_holds lessen-all-requires returns loop_less loop_again)
+    (tie.spec invariant-loop-v decreases-loop-v (λ c κs. search rules) loop-v-init lessen_all-u-requires returns-then-u-eq0 loop-v-smaller loop-v-preserved)

@@ -12,11 +12,11 @@ behind : (c : tie.After-wider) → c.before.before.before.args.s ≡ start_of c.
 unfolding start_of
 behind c = rw (c.wider.ensures, c.before.length.ensures) (rw add-one at c.before.before.before.requires)
 
-sub-result : tie.Need-overflow-sub-result
-sub-result c = omega (arith, behind c)
+overflow_sub-result : tie.Need-overflow_sub-result
+overflow_sub-result c = omega (arith, behind c)
 
 returns : tie.Need-returns
 returns c = omega (arith, behind c)
 
-pub start-before-spec : {M : Type 1} → statement M
-start-before-spec = tie.close (tie.spec (λ c κs. search rules) (λ c κs. search rules) sub-result returns)
+pub start_before_spec : {M : Type 1} → statement M
+start_before_spec = tie.close (tie.spec (λ c κs. search rules) (λ c κs. search rules) overflow_sub-result returns)

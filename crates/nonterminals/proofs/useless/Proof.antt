@@ -6,16 +6,16 @@ use Rattle.nonterminals.proofs.useless.Statement.{statement}
 use Rattle.nonterminals.proofs.useless.Tie as tie
 
 productive-requires : tie.Need-productive-requires
-productive-requires c κs = (c.before.before.before.requires, c.before.rights.ensures)
+productive-requires c κs = (c.before.before.before.requires, c.before.rights-v.ensures)
 
 reachable-requires : tie.Need-reachable-requires
-reachable-requires c κs = let made = c.before.before.before in (made.before.before.requires, made.rights.ensures)
+reachable-requires c κs = let made = c.before.before.before in (made.before.before.requires, made.rights-v.ensures)
 
-cast-result : tie.Need-overflow-cast-result
-cast-result c = record { fits = omega (arith, lowest_le c.lowest.ensures) }
+overflow_cast-result : tie.Need-overflow_cast-result
+overflow_cast-result c = record { fits = omega (arith, lowest_le c.lowest.ensures) }
 
-add_result : tie.Need-overflow-add-result
-add_result c =
+overflow_add-result : tie.Need-overflow_add-result
+overflow_add-result c =
     let made = c.before.before.before.before.before.before in
     let w = well_formed _ made.before.before.requires in
     omega (arith, lowest_le c.lowest.ensures, w.limits.terminals_to, c.before.terminals.ensures)
@@ -26,8 +26,8 @@ returns c =
     rw c.before.terminals.ensures
     (lowest_useless _ made.before.before.requires _ _ c.before.before.before.before.productive.ensures c.before.before.reachable.ensures _ c.lowest.ensures)
 
-pub useless-spec : {M : Type 1} → statement M
-useless-spec =
+pub useless_spec : {M : Type 1} → statement M
+useless_spec =
     tie.close
     (tie.spec
     (λ c κs. search rules)
@@ -35,6 +35,6 @@ useless-spec =
     reachable-requires
     (λ c κs. search rules)
     (λ c κs. search rules)
-    cast-result
-    add_result
+    overflow_cast-result
+    overflow_add-result
     returns)

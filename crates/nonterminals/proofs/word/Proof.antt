@@ -7,29 +7,29 @@ use Rattle.nonterminals.proofs.WordLaws.{word_terminal, word_nonterminal}
 use Rattle.nonterminals.proofs.word.Statement.{statement}
 use Rattle.nonterminals.proofs.word.Tie as tie
 
-terminals-requires : tie.Need-terminals-requires
-terminals-requires c κs = search rules
+terminals-first-requires : tie.Need-terminals-first-requires
+terminals-first-requires c κs = search rules
+
+returns-then-x-first : tie.Need-returns-then-x-first
+returns-then-x-first c =
+    let args = c.before.before.before.args in
+    sym (word_terminal args.c.now args.x (omega (arith, c.if-x-first.true, c.before.terminals-first.ensures)))
+
+overflow_cast-result : tie.Need-overflow_cast-result
+overflow_cast-result c = search rules
+
+overflow_shl-result : tie.Need-overflow_shl-result
+overflow_shl-result c =
+    let w = well_formed _ c.before.before.before.requires.0 in
+    omega (arith, w.limits.nonterminals_to, c.if-x-first.false, c.before.terminals-first.ensures, c.before.before.before.requires.1)
 
 returns : tie.Need-returns
 returns c =
     let args = c.before.before.before.args in
-    sym (word_terminal args.c.now args.x (omega (arith, c.if1.true, c.before.terminals.ensures)))
-
-cast-result : tie.Need-overflow-cast-result
-cast-result c = search rules
-
-shl-result : tie.Need-overflow-shl-result
-shl-result c =
     let w = well_formed _ c.before.before.before.requires.0 in
-    omega (arith, w.limits.nonterminals_to, c.if1.false, c.before.terminals.ensures, c.before.before.before.requires.1)
-
-returns_2 : tie.Need-returns-2
-returns_2 c =
-    let args = c.before.before.before.args in
-    let w = well_formed _ c.before.before.before.requires.0 in
-    let e = c.before.terminals.ensures in
-    rw (word_nonterminal args.c.now args.x (omega (arith, c.if1.false, e)), ← e)
-    (one_shl 64 _ (omega (arith, w.limits.nonterminals_to, c.if1.false, e, c.before.before.before.requires.1)))
+    let e = c.before.terminals-first.ensures in
+    rw (word_nonterminal args.c.now args.x (omega (arith, c.if-x-first.false, e)), ← e)
+    (one_shl 64 _ (omega (arith, w.limits.nonterminals_to, c.if-x-first.false, e, c.before.before.before.requires.1)))
 
 pub word_spec : {M : Type 1} → statement M
-word_spec = tie.close (tie.spec terminals-requires returns cast-result shl-result returns_2)
+word_spec = tie.close (tie.spec terminals-first-requires returns-then-x-first overflow_cast-result overflow_shl-result returns)

@@ -3,15 +3,15 @@ use borrow.Author.Rules.{rules}
 use Rattle.relations.proofs.first_edge.Statement.{statement}
 use Rattle.relations.proofs.first_edge.Tie as tie
 
-returns : tie.Need-returns
-returns c =
-    let pre = c.before.before.before.before.before.requires in
-    rw c.before.enum_told.given.1 (λ k O. c.first_reads.ensures _ k O (rw (same_count _ _ k _ O pre.ordered) at pre.below))
+returns-in-Reads : tie.Need-returns-in-Reads
+returns-in-Reads c =
+    let pre = c.before.before.before.before.requires in
+    rw c.before.in-Reads.is (λ k O. c.first_reads.ensures _ k O (rw (same_count _ _ k _ O pre.ordered) at pre.below))
 
-returns_2 : tie.Need-returns-2
-returns_2 c = rw c.before.enum-told2.given.1 c.first-includes.ensures
+returns-in-Includes : tie.Need-returns-in-Includes
+returns-in-Includes c = rw c.before.in-Includes.is c.first_includes.ensures
 
-pub first-edge-spec : {M : Type 1} → statement M
-first-edge-spec =
+pub first_edge_spec : {M : Type 1} → statement M
+first_edge_spec =
     tie.close
-    (tie.spec (λ c. search rules) (λ c κs. search rules) (λ c. search rules) (λ c κs. search rules) returns returns_2)
+    (tie.spec (λ c. search rules) (λ c κs. search rules) (λ c. search rules) (λ c κs. search rules) returns-in-Reads returns-in-Includes)

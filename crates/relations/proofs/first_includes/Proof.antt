@@ -11,33 +11,33 @@ use Rattle.relations.proofs.first_includes.Tie as tie
 terminals-requires : tie.Need-terminals-requires
 terminals-requires c κs = search rules
 
-wider-requires : tie.Need-wider-requires
-wider-requires c κs = search rules
+wider-t-requires : tie.Need-wider-t-requires
+wider-t-requires c κs = search rules
 
 nonterminal-requires : tie.Need-nonterminal-requires
 nonterminal-requires c κs = search rules
 
-sub-last : tie.Need-overflow-sub-last
-sub-last c =
+overflow_sub-nonterminal : tie.Need-overflow_sub-nonterminal
+overflow_sub-nonterminal c =
     let pre = c.before.before.before.before.before.requires in
     let terminals' = c.before.before.terminals in
-    let wider = c.before.wider in
+    let wider = c.before.wider-t in
     let l = pre.ordered.low _ pre.below in omega (arith, l, wider.ensures, terminals'.ensures, c.nonterminal.ensures)
 
-last-requires : tie.Need-last-requires
-last-requires c κs = search rules
+last-at-requires : tie.Need-last-at-requires
+last-at-requires c κs = search rules
 
 leaves-requires : tie.Need-leaves-requires
 leaves-requires c κs = search rules
 
-opened-requires : tie.Need-opened-requires
-opened-requires c κs =
+opened-set-requires : tie.Need-opened-set-requires
+opened-set-requires c κs =
     let args = c.before.before.before.before.before.before.before.args in
     let pre = c.before.before.before.before.before.before.before.requires in
     let terminals' = c.before.before.before.before.terminals in
-    let wider = c.before.before.before.wider in
+    let wider = c.before.before.before.wider-t in
     let nonterminal = c.before.before.nonterminal in
-    let last = c.before.last in
+    let last = c.before.last-at in
     let l = latest_of _ _ _ _ pre.ordered _ _ pre.below (wider.ensures ∙ terminals'.ensures) (last.ensures ∙ ap (λ (z : ℕ). last_of args.w.now (z - wider.result)) nonterminal.ensures) in
     ((pre.nodes, pre.ordered), rw c.leaves.ensures (pre.ordered.leaves _ pre.below), l.most)
 
@@ -46,23 +46,23 @@ returns c =
     let args = c.before.before.before.before.before.before.before.before.args in
     let pre = c.before.before.before.before.before.before.before.before.requires in
     let terminals' = c.before.before.before.before.before.terminals in
-    let wider = c.before.before.before.before.wider in
+    let wider = c.before.before.before.before.wider-t in
     let nonterminal = c.before.before.before.nonterminal in
-    let last = c.before.before.last in
+    let last = c.before.before.last-at in
     let leaves = c.before.leaves in
     λ k O. includes_first _ _ k _ O _
     (latest_of _ _ k _ O _ _ (rw (same_count _ _ k _ O pre.ordered) at pre.below) (wider.ensures ∙ terminals'.ensures) (last.ensures ∙ ap (λ (z : ℕ). last_of args.w.now (z - wider.result)) nonterminal.ensures))
-    (rw leaves.ensures at c.opened.ensures)
+    (rw leaves.ensures at c.opened-set.ensures)
 
-pub first-includes-spec : {M : Type 1} → statement M
-first-includes-spec =
+pub first_includes_spec : {M : Type 1} → statement M
+first_includes_spec =
     tie.close
     (tie.spec
     terminals-requires
-    wider-requires
+    wider-t-requires
     nonterminal-requires
-    sub-last
-    last-requires
+    overflow_sub-nonterminal
+    last-at-requires
     leaves-requires
-    opened-requires
+    opened-set-requires
     returns)

@@ -5,35 +5,35 @@ use Rattle.relations.proofs.StateLaws.{Part, part_start, part_more, part_end, ad
 use Rattle.relations.proofs.join_predecessors.Statement.{statement}
 use Rattle.relations.proofs.join_predecessors.Tie as tie
 
-abbrev invariant_loop : tie.invariant-loop
-invariant_loop w x q t₀ j₀ t j = Part w q t₀ j t
+abbrev invariant-loop-j : tie.invariant-loop-j
+invariant-loop-j w x q t₀ j₀ t j = Part w q t₀ j t
 
-abbrev decreases_loop : tie.decreases-loop
-decreases_loop w x q t₀ j₀ t j = 4 - j
+abbrev decreases-loop-j : tie.decreases-loop-j
+decreases-loop-j w x q t₀ j₀ t j = 4 - j
 
-returns : tie.Need-returns invariant_loop decreases_loop
-returns c = adds_none _ _ _ _ (λ e. c.if1.true (c.before.entering.ensures ∙ e))
+returns-then-entering-x : tie.Need-returns-then-entering-x invariant-loop-j decreases-loop-j
+returns-then-entering-x c = adds_none _ _ _ _ (λ e. c.if-entering-x.true (c.before.entering.ensures ∙ e))
 
-loop_holds : tie.Need-loop-init invariant_loop decreases_loop
-loop_holds c = part_start _ _ _ (search rules)
+loop-j-init : tie.Need-loop-j-init invariant-loop-j decreases-loop-j
+loop-j-init c = part_start _ _ _ (search rules)
 
-loop_again : tie.Need-loop-preserved invariant_loop decreases_loop
-loop_again c = part_more _ _ _ _ _ c.before.before.loop.invariant _ c.before.loop-test.true c.predecessors.ensures
+loop-j-preserved : tie.Need-loop-j-preserved invariant-loop-j decreases-loop-j
+loop-j-preserved c = part_more _ _ _ _ _ c.before.before.loop-j.invariant _ c.before.loop-j-test.true c.predecessors.ensures
 
-returns_2 : tie.Need-returns-2 invariant_loop decreases_loop
-returns_2 c =
+returns : tie.Need-returns invariant-loop-j decreases-loop-j
+returns c =
     let args = c.before.before.before.before.before.args in
-    part_end _ args.q _ _ _ args.x c.before.loop.invariant c.loop-test.false c.before.before.before.before.before.requires (sym c.before.before.before.entering.ensures ∙ c.before.before.if1.false)
+    part_end _ args.q _ _ _ args.x c.before.loop-j.invariant c.loop-j-test.false c.before.before.before.before.before.requires (sym c.before.before.before.entering.ensures ∙ c.before.before.if-entering-x.false)
 
-pub join-predecessors-spec : {M : Type 1} → statement M
-join-predecessors-spec =
+pub join_predecessors_spec : {M : Type 1} → statement M
+join_predecessors_spec =
     tie.close
     (tie.spec
-    invariant_loop
-    decreases_loop
+    invariant-loop-j
+    decreases-loop-j
     (λ c κs. search rules)
-    returns
-    loop_holds
+    returns-then-entering-x
+    loop-j-init
     (λ c. search rules)
     (λ c. search rules)
     (λ c κs. search rules)
@@ -41,5 +41,5 @@ join-predecessors-spec =
     (λ c. search rules)
     (λ c. search rules)
     (λ c. search rules)
-    loop_again
-    returns_2)
+    loop-j-preserved
+    returns)

@@ -2,19 +2,19 @@ use borrow.Author.Rules.{rules}
 use Rattle.relations.proofs.next_edge.Statement.{statement}
 use Rattle.relations.proofs.next_edge.Tie as tie
 
-next-reads-requires : tie.Need-next-reads-requires
-next-reads-requires c κs = rw c.enum_told.given.1 at c.before.before.before.before.requires
+next_reads-requires : tie.Need-next_reads-requires
+next_reads-requires c κs = rw c.in-Reads.is at c.before.before.before.requires
 
-next-includes-requires : tie.Need-next-includes-requires
-next-includes-requires c κs = rw c.enum-told2.given.1 at c.before.before.before.before.requires
+next_includes-requires : tie.Need-next_includes-requires
+next_includes-requires c κs = rw c.in-Includes.is at c.before.before.before.requires
 
-returns : tie.Need-returns
-returns c = rw c.before.enum_told.given.1 c.next-reads.ensures
+returns-in-Reads : tie.Need-returns-in-Reads
+returns-in-Reads c = rw c.before.in-Reads.is c.next_reads.ensures
 
-returns_2 : tie.Need-returns-2
-returns_2 c = rw c.before.enum-told2.given.1 c.next-includes.ensures
+returns-in-Includes : tie.Need-returns-in-Includes
+returns-in-Includes c = rw c.before.in-Includes.is c.next_includes.ensures
 
-pub next-edge-spec : {M : Type 1} → statement M
-next-edge-spec =
+pub next_edge_spec : {M : Type 1} → statement M
+next_edge_spec =
     tie.close
-    (tie.spec (λ c. search rules) next-reads-requires (λ c. search rules) next-includes-requires returns returns_2)
+    (tie.spec (λ c. search rules) next_reads-requires (λ c. search rules) next_includes-requires returns-in-Reads returns-in-Includes)

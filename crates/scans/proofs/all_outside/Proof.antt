@@ -9,39 +9,39 @@ use Rattle.scans.specs.OpenFront.{outside}
 use Rattle.scans.proofs.all_outside.Statement.{statement}
 use Rattle.scans.proofs.all_outside.Tie as tie
 
-abbrev invariant_loop : tie.invariant-loop
-invariant_loop input lo hi ok₀ i₀ ok i = (ok ≡ all_below i (outside lo hi input)) × (i ≤ length input)
+abbrev invariant-loop-i : tie.invariant-loop-i
+invariant-loop-i input lo hi ok₀ i₀ ok i = (ok ≡ all_below i (outside lo hi input)) × (i ≤ length input)
 
-abbrev decreases_loop : tie.decreases-loop
-decreases_loop input lo hi ok₀ i₀ ok i = length input - i
+abbrev decreases-loop-i : tie.decreases-loop-i
+decreases-loop-i input lo hi ok₀ i₀ ok i = length input - i
 
-loop_holds : tie.Need-loop-init invariant_loop decreases_loop
+loop-i-init : tie.Need-loop-i-init invariant-loop-i decreases-loop-i
 unfolding all_below
-loop_holds c = (refl, zero-le)
+loop-i-init c = (refl, zero-le)
 
-loop_again : tie.Need-loop-preserved invariant_loop decreases_loop
-loop_again c =
+loop-i-preserved : tie.Need-loop-i-preserved invariant-loop-i decreases-loop-i
+loop-i-preserved c =
     let b4 = c.before.before.before.before in
     let a = b4.before.before.args in
-    (c.both.ensures ∙ all_step (outside a.lo a.hi a.input.now) b4.loop.i b4.loop.invariant.0 c.before.either.ensures, omega arith)
+    (c.both-ok.ensures ∙ all_step (outside a.lo a.hi a.input.now) b4.loop-i.i b4.loop-i.invariant.0 c.before.either.ensures, omega arith)
 
-returns : tie.Need-returns invariant_loop decreases_loop
+returns : tie.Need-returns invariant-loop-i decreases-loop-i
 returns c =
-    let g = c.before.loop in
+    let g = c.before.loop-i in
     let a = c.before.before.before.args in
-    all_last (outside a.lo a.hi a.input.now) _ g.i g.invariant.0 g.invariant.1 c.loop-test.false
+    all_last (outside a.lo a.hi a.input.now) _ g.i g.invariant.0 g.invariant.1 c.loop-i-test.false
 
-pub all-outside-spec : {M : Type 1} → statement M
-all-outside-spec =
+pub all_outside_spec : {M : Type 1} → statement M
+all_outside_spec =
     tie.close
     (tie.spec
-    invariant_loop
-    decreases_loop
-    loop_holds
+    invariant-loop-i
+    decreases-loop-i
+    loop-i-init
     (λ c. search rules)
     (λ c κs. search rules)
     (λ c κs. search rules)
     (λ c. omega arith)
     (λ c. omega arith)
-    loop_again
+    loop-i-preserved
     returns)

@@ -6,35 +6,35 @@ use lib.ListN.{length}
 use Rattle.scans.proofs.clear.Statement.{statement}
 use Rattle.scans.proofs.clear.Tie as tie
 
-abbrev invariant_loop : tie.invariant-loop
-invariant_loop second₀ i₀ second i = Cleared second₀ second i
+abbrev invariant-loop-i : tie.invariant-loop-i
+invariant-loop-i second₀ i₀ second i = Cleared second₀ second i
 
-abbrev decreases_loop : tie.decreases-loop
-decreases_loop second₀ i₀ second i = length second₀ - i
+abbrev decreases-loop-i : tie.decreases-loop-i
+decreases-loop-i second₀ i₀ second i = length second₀ - i
 
-loop_holds : tie.Need-loop-init invariant_loop decreases_loop
-loop_holds c = cleared_none _
+loop-i-init : tie.Need-loop-i-init invariant-loop-i decreases-loop-i
+loop-i-init c = cleared_none _
 
-loop_less : tie.Need-loop-smaller invariant_loop decreases_loop
-loop_less c = omega (arith, c.before.loop.invariant.long, c.loop-test.true)
+loop-i-smaller : tie.Need-loop-i-smaller invariant-loop-i decreases-loop-i
+loop-i-smaller c = omega (arith, c.before.loop-i.invariant.long, c.loop-i-test.true)
 
-loop_again : tie.Need-loop-preserved invariant_loop decreases_loop
-loop_again c = cleared_more c.before.loop.invariant c.loop-test.true
+loop-i-preserved : tie.Need-loop-i-preserved invariant-loop-i decreases-loop-i
+loop-i-preserved c = cleared_more c.before.loop-i.invariant c.loop-i-test.true
 
-returns : tie.Need-returns invariant_loop decreases_loop
-returns c = cleared_all c.before.loop.invariant (omega (arith, c.loop-test.false))
+returns : tie.Need-returns invariant-loop-i decreases-loop-i
+returns c = cleared_all c.before.loop-i.invariant (omega (arith, c.loop-i-test.false))
 
 pub clear_spec : {M : Type 1} → statement M
 clear_spec =
     tie.close
     (tie.spec
-    invariant_loop
-    decreases_loop
-    loop_holds
+    invariant-loop-i
+    decreases-loop-i
+    loop-i-init
     (λ c. search rules)
     (λ c. search rules)
     (λ c. search rules)
-    loop_less
-    loop_again
-    (λ c. c.before.loop.invariant.long)
+    loop-i-smaller
+    loop-i-preserved
+    (λ c. c.before.loop-i.invariant.long)
     returns)

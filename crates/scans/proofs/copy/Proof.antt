@@ -5,31 +5,31 @@ use borrow.Author.Rules.{rules}
 use Rattle.scans.proofs.copy.Statement.{statement}
 use Rattle.scans.proofs.copy.Tie as tie
 
-abbrev invariant_loop : tie.invariant-loop
-invariant_loop stack second₀ n i₀ second i = Copied stack second₀ second n i
+abbrev invariant-loop-i : tie.invariant-loop-i
+invariant-loop-i stack second₀ n i₀ second i = Copied stack second₀ second n i
 
-abbrev decreases_loop : tie.decreases-loop
-decreases_loop stack second₀ n i₀ second i = n - i
+abbrev decreases-loop-i : tie.decreases-loop-i
+decreases-loop-i stack second₀ n i₀ second i = n - i
 
-loop_holds : tie.Need-loop-init invariant_loop decreases_loop
-loop_holds c = copied_none _ _ _
+loop-i-init : tie.Need-loop-i-init invariant-loop-i decreases-loop-i
+loop-i-init c = copied_none _ _ _
 
-loop_again : tie.Need-loop-preserved invariant_loop decreases_loop
-loop_again c = let p = c.before.before.before.requires in copied_more c.before.before.loop.invariant c.before.loop-test.true p.0 p.1
+loop-i-preserved : tie.Need-loop-i-preserved invariant-loop-i decreases-loop-i
+loop-i-preserved c = let p = c.before.before.before.requires in copied_more c.before.before.loop-i.invariant c.before.loop-i-test.true p.0 p.1
 
 pub copy_spec : {M : Type 1} → statement M
 copy_spec =
     tie.close
     (tie.spec
-    invariant_loop
-    decreases_loop
-    loop_holds
+    invariant-loop-i
+    decreases-loop-i
+    loop-i-init
     (λ c. search rules)
     (λ c. search rules)
     (λ c. search rules)
-    (λ c. omega (arith, c.before.loop-test.true, c.before.before.loop.invariant.long, c.before.before.before.requires.1))
+    (λ c. omega (arith, c.before.loop-i-test.true, c.before.before.loop-i.invariant.long, c.before.before.before.requires.1))
     (λ c. search rules)
     (λ c. search rules)
-    loop_again
-    (λ c. c.before.loop.invariant.long)
-    (λ c. copied_all c.before.loop.invariant (omega (arith, c.loop-test.false))))
+    loop-i-preserved
+    (λ c. c.before.loop-i.invariant.long)
+    (λ c. copied_all c.before.loop-i.invariant (omega (arith, c.loop-i-test.false))))

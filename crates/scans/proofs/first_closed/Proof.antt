@@ -4,15 +4,15 @@ use Rattle.scans.proofs.Searching.{none_closed, outside_open}
 use Rattle.scans.proofs.first_closed.Statement.{statement}
 use Rattle.scans.proofs.first_closed.Tie as tie
 
-returns : tie.Need-returns
-returns c = none_closed _ _ c.if1.true
+returns-then-closed-eq0 : tie.Need-returns-then-closed-eq0
+returns-then-closed-eq0 c = none_closed _ _ c.if-closed-eq0.true
 
-returns_2 : tie.Need-returns-2
-returns_2 c =
+returns-then-all_outside : tie.Need-returns-then-all_outside
+returns-then-all_outside c =
     let b2 = c.before.before in
-    outside_open _ _ b2.past-closed.result _ b2.before.lowest-closed.ensures b2.past-closed.ensures (sym c.before.all-outside.ensures ∙ c.if2.true)
+    outside_open _ _ b2.past_closed.result _ b2.before.lowest_closed.ensures b2.past_closed.ensures (sym c.before.all_outside.ensures ∙ c.if-all_outside.true)
 
-pub first-closed-spec : {M : Type 1} → statement M
-first-closed-spec =
+pub first_closed_spec : {M : Type 1} → statement M
+first_closed_spec =
     tie.close
-    (tie.spec returns (λ c κs. search rules) (λ c κs. search rules) (λ c κs. search rules) returns_2 (λ c κs. search rules) (λ c. c.search.ensures))
+    (tie.spec returns-then-closed-eq0 (λ c κs. search rules) (λ c κs. search rules) (λ c κs. search rules) returns-then-all_outside (λ c κs. search rules) (λ c. c.search.ensures))

@@ -11,5 +11,5 @@ returns : tie.Need-returns
 unfolding bit
 returns c = ap (λ (x : ℕ). eqb x 1) (and_mask (c.args.closed / 2 ^ c.args.b) 1)
 
-pub is-closed-spec : {M : Type 1} → statement M
-is-closed-spec = tie.close (tie.spec (λ c. search rules) returns)
+pub is_closed_spec : {M : Type 1} → statement M
+is_closed_spec = tie.close (tie.spec (λ c. search rules) returns)

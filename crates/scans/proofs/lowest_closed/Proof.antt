@@ -4,11 +4,11 @@ use lib.Count.{trailing_le}
 use Rattle.scans.proofs.lowest_closed.Statement.{statement}
 use Rattle.scans.proofs.lowest_closed.Tie as tie
 
-cast-result : tie.Need-overflow-cast-result
-cast-result c = omega (arith, c.lowest.ensures.value, trailing_le 64 c.before.args.closed)
+overflow_cast-result : tie.Need-overflow_cast-result
+overflow_cast-result c = omega (arith, c.lowest.ensures.value, trailing_le 64 c.before.args.closed)
 
 returns : tie.Need-returns
 returns c = c.lowest.ensures.least
 
-pub lowest-closed-spec : {M : Type 1} → statement M
-lowest-closed-spec = tie.close (tie.spec (λ c κs. search rules) cast-result returns)
+pub lowest_closed_spec : {M : Type 1} → statement M
+lowest_closed_spec = tie.close (tie.spec (λ c κs. search rules) overflow_cast-result returns)

@@ -6,35 +6,35 @@ use Rattle.scans.proofs.Searching.{Searching, searching_start, searching_on, sea
 use Rattle.scans.proofs.search.Statement.{statement}
 use Rattle.scans.proofs.search.Tie as tie
 
-abbrev invariant_loop : tie.invariant-loop
-invariant_loop input closed i₀ i = Searching closed input i
+abbrev invariant-loop-i : tie.invariant-loop-i
+invariant-loop-i input closed i₀ i = Searching closed input i
 
-abbrev decreases_loop : tie.decreases-loop
-decreases_loop input closed i₀ i = length input - i
+abbrev decreases-loop-i : tie.decreases-loop-i
+decreases-loop-i input closed i₀ i = length input - i
 
-is-closed-requires : tie.Need-is-closed-requires invariant_loop decreases_loop
-is-closed-requires c κs = c.before.before.before.before.requires c.before.before.loop.i
+is_closed-requires : tie.Need-is_closed-requires invariant-loop-i decreases-loop-i
+is_closed-requires c κs = c.before.before.before.before.requires c.before.before.loop-i.i
 
-returns : tie.Need-returns invariant_loop decreases_loop
-returns c = search_found c.before.before.before.before.loop.invariant c.before.is-closed.ensures c.if1.true
+returns-then-is_closed : tie.Need-returns-then-is_closed invariant-loop-i decreases-loop-i
+returns-then-is_closed c = search_found c.before.before.before.before.loop-i.invariant c.before.is_closed.ensures c.if-is_closed.true
 
-loop_again : tie.Need-loop-preserved invariant_loop decreases_loop
-loop_again c = searching_on c.before.before.before.before.loop.invariant c.before.before.before.loop-test.true c.before.is-closed.ensures c.if1.false
+loop-i-preserved : tie.Need-loop-i-preserved invariant-loop-i decreases-loop-i
+loop-i-preserved c = searching_on c.before.before.before.before.loop-i.invariant c.before.before.before.loop-i-test.true c.before.is_closed.ensures c.if-is_closed.false
 
-returns_2 : tie.Need-returns-2 invariant_loop decreases_loop
-returns_2 c = search_over c.before.loop.invariant c.loop-test.false
+returns : tie.Need-returns invariant-loop-i decreases-loop-i
+returns c = search_over c.before.loop-i.invariant c.loop-i-test.false
 
-pub search-spec : {M : Type 1} → statement M
-search-spec =
+pub search_spec : {M : Type 1} → statement M
+search_spec =
     tie.close
     (tie.spec
-    invariant_loop
-    decreases_loop
+    invariant-loop-i
+    decreases-loop-i
     (λ c. searching_start)
     (λ c. search rules)
-    is-closed-requires
-    returns
+    is_closed-requires
+    returns-then-is_closed
     (λ c. omega arith)
     (λ c. omega arith)
-    loop_again
-    returns_2)
+    loop-i-preserved
+    returns)

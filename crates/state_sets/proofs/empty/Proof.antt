@@ -5,5 +5,5 @@ use Rattle.state_sets.proofs.empty.Tie as tie
 returns : tie.Need-returns
 returns c = item_empty 4
 
-pub empty-spec : {M : Type 1} → statement M
-empty-spec = tie.close (tie.spec returns)
+pub empty_spec : {M : Type 1} → statement M
+empty_spec = tie.close (tie.spec returns)

@@ -8,53 +8,53 @@ use borrow.Author.Rules.{rules}
 use Rattle.steps.proofs.reduce.Statement.{statement}
 use Rattle.steps.proofs.reduce.Tie as tie
 
-sub-under : tie.Need-overflow-sub-under
-sub-under c = search rules
+overflow_sub-under : tie.Need-overflow_sub-under
+overflow_sub-under c = search rules
 
-sub-under-2 : tie.Need-overflow-sub-under-2
-sub-under-2 c = search rules
+overflow_sub-under-then-n-s : tie.Need-overflow_sub-under-then-n-s
+overflow_sub-under-then-n-s c = search rules
 
-mul-under : tie.Need-overflow-mul-under
-mul-under c = search rules
+offset_bounds-stack-s : tie.Need-offset_bounds-stack-s
+offset_bounds-stack-s c = search rules
 
-slice-read-under : tie.Need-slice-read-under
-slice-read-under c = search rules
+bounds-stack-s : tie.Need-bounds-stack-s
+bounds-stack-s c = search rules
 
-cast-under : tie.Need-overflow-cast-under
-cast-under c = omega (arith, c.slice-known3.given (c.before.before.before.before.before.before.before.before.before.before.args.s.depth - c.before.before.before.before.before.before.before.before.before.before.args.n - 1))
+overflow_cast-under : tie.Need-overflow_cast-under
+overflow_cast-under c = omega (arith, c.slice_known-then-n-s-1.given (c.before.before.before.before.before.before.before.before.before.before.args.s.depth - c.before.before.before.before.before.before.before.before.before.before.args.n - 1))
 
-reduce-from-requires : tie.Need-reduce-from-requires
+reduce_from-requires : tie.Need-reduce_from-requires
 unfolding top_of
-reduce-from-requires c κs = record { held = c.before.before.before.before.before.before.before.before.before.before.before.before.requires.0; production = c.before.before.before.before.before.before.before.before.before.before.before.before.requires.1; less = c.before.before.before.before.if2.true; under_is = refl; free = c.before.before.before.before.before.before.if1.true; more = c.before.before.before.before.before.before.before.before.before.before.before.before.requires.3 }
+reduce_from-requires c κs = record { held = c.before.before.before.before.before.before.before.before.before.before.before.before.requires.0; production = c.before.before.before.before.before.before.before.before.before.before.before.before.requires.1; less = c.before.before.before.before.if-n-s.true; under_is = refl; free = c.before.before.before.before.before.before.if-s-list.true; more = c.before.before.before.before.before.before.before.before.before.before.before.before.requires.3 }
 
-same_length : tie.Need-same-length
-same_length c = search rules
+shape_of-stack : tie.Need-shape_of-stack
+shape_of-stack c = search rules
 
-same-length-2 : tie.Need-same-length-2
-same-length-2 c = search rules
+shape_of-list : tie.Need-shape_of-list
+shape_of-list c = search rules
 
-returns : tie.Need-returns
+returns-then-n-s : tie.Need-returns-then-n-s
 unfolding top_of
-returns c = reduce_as (record { held = c.before.before.before.before.before.before.before.before.before.before.before.before.before.before.before.before.before.requires.0; production = c.before.before.before.before.before.before.before.before.before.before.before.before.before.before.before.before.before.requires.1; less = c.before.before.before.before.before.before.before.before.before.if2.true; under_is = refl; free = c.before.before.before.before.before.before.before.before.before.before.before.if1.true; more = c.before.before.before.before.before.before.before.before.before.before.before.before.before.before.before.before.before.requires.3 }) c.before.before.before.before.before.before.before.before.before.before.before.before.before.before.before.before.before.requires.2 c.before.before.before.before.reduce-from.ensures
+returns-then-n-s c = reduce_as (record { held = c.before.before.before.before.before.before.before.before.before.before.before.before.before.before.before.before.before.requires.0; production = c.before.before.before.before.before.before.before.before.before.before.before.before.before.before.before.before.before.requires.1; less = c.before.before.before.before.before.before.before.before.before.if-n-s.true; under_is = refl; free = c.before.before.before.before.before.before.before.before.before.before.before.if-s-list.true; more = c.before.before.before.before.before.before.before.before.before.before.before.before.before.before.before.before.before.requires.3 }) c.before.before.before.before.before.before.before.before.before.before.before.before.before.before.before.before.before.requires.2 c.before.before.before.before.reduce_from.ensures
 
-returns_2 : tie.Need-returns-2
-returns_2 c = record { next = sym (reduced_broken _ _ _ c.before.before.if1.true (rw c.before.before.before.before.before.before.before.before.requires.2 c.if2.false)); held = tt }
+returns-else-n-s : tie.Need-returns-else-n-s
+returns-else-n-s c = record { next = sym (reduced_broken _ _ _ c.before.before.if-s-list.true (rw c.before.before.before.before.before.before.before.before.requires.2 c.if-n-s.false)); held = tt }
 
-returns_3 : tie.Need-returns-3
-returns_3 c = record { next = sym (reduced_full _ _ _ c.if1.false); held = tt }
+returns-else-s-list : tie.Need-returns-else-s-list
+returns-else-s-list c = record { next = sym (reduced_full _ _ _ c.if-s-list.false); held = tt }
 
-pub reduce-spec : {M : Type 1} → statement M
-reduce-spec =
+pub reduce_spec : {M : Type 1} → statement M
+reduce_spec =
     tie.close
     (tie.spec
-    sub-under
-    sub-under-2
-    mul-under
-    slice-read-under
-    cast-under
-    reduce-from-requires
-    same_length
-    same-length-2
-    returns
-    returns_2
-    returns_3)
+    overflow_sub-under
+    overflow_sub-under-then-n-s
+    offset_bounds-stack-s
+    bounds-stack-s
+    overflow_cast-under
+    reduce_from-requires
+    shape_of-stack
+    shape_of-list
+    returns-then-n-s
+    returns-else-n-s
+    returns-else-s-list)

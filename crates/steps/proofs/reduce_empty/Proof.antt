@@ -6,21 +6,21 @@ use borrow.Author.Rules.{rules}
 use Rattle.steps.proofs.reduce_empty.Statement.{statement}
 use Rattle.steps.proofs.reduce_empty.Tie as tie
 
-reduce-from-requires : tie.Need-reduce-from-requires
-reduce-from-requires c κs = record { held = c.before.before.before.before.before.before.before.requires.0; production = c.before.before.before.before.before.before.before.requires.1; less = c.before.before.before.before.before.before.before.requires.0.deep; under_is = rw sub-zero c.before.before.before.before.before.before.before.requires.0.top_is; free = c.before.before.if1.true; more = c.before.before.before.before.before.before.before.requires.3 }
+reduce_from-requires : tie.Need-reduce_from-requires
+reduce_from-requires c κs = record { held = c.before.before.before.before.before.before.before.requires.0; production = c.before.before.before.before.before.before.before.requires.1; less = c.before.before.before.before.before.before.before.requires.0.deep; under_is = rw sub-zero c.before.before.before.before.before.before.before.requires.0.top_is; free = c.before.before.if-k-list.true; more = c.before.before.before.before.before.before.before.requires.3 }
 
-same_length : tie.Need-same-length
-same_length c = search rules
+shape_of-stack-then-k-list : tie.Need-shape_of-stack-then-k-list
+shape_of-stack-then-k-list c = search rules
 
-same-length-2 : tie.Need-same-length-2
-same-length-2 c = search rules
+shape_of-list-then-k-list : tie.Need-shape_of-list-then-k-list
+shape_of-list-then-k-list c = search rules
+
+returns-then-k-list : tie.Need-returns-then-k-list
+returns-then-k-list c = reduce_as (record { held = c.before.before.before.before.before.before.before.before.before.before.before.before.requires.0; production = c.before.before.before.before.before.before.before.before.before.before.before.before.requires.1; less = c.before.before.before.before.before.before.before.before.before.before.before.before.requires.0.deep; under_is = rw sub-zero c.before.before.before.before.before.before.before.before.before.before.before.before.requires.0.top_is; free = c.before.before.before.before.before.before.before.if-k-list.true; more = c.before.before.before.before.before.before.before.before.before.before.before.before.requires.3 }) c.before.before.before.before.before.before.before.before.before.before.before.before.requires.2 c.before.before.before.before.reduce_from.ensures
 
 returns : tie.Need-returns
-returns c = reduce_as (record { held = c.before.before.before.before.before.before.before.before.before.before.before.before.requires.0; production = c.before.before.before.before.before.before.before.before.before.before.before.before.requires.1; less = c.before.before.before.before.before.before.before.before.before.before.before.before.requires.0.deep; under_is = rw sub-zero c.before.before.before.before.before.before.before.before.before.before.before.before.requires.0.top_is; free = c.before.before.before.before.before.before.before.if1.true; more = c.before.before.before.before.before.before.before.before.before.before.before.before.requires.3 }) c.before.before.before.before.before.before.before.before.before.before.before.before.requires.2 c.before.before.before.before.reduce-from.ensures
+returns c = record { next = sym (reduced_full _ _ _ c.if-k-list.false); held = tt }
 
-returns_2 : tie.Need-returns-2
-returns_2 c = record { next = sym (reduced_full _ _ _ c.if1.false); held = tt }
-
-pub reduce-empty-spec : {M : Type 1} → statement M
-reduce-empty-spec =
-    tie.close (tie.spec reduce-from-requires same_length same-length-2 returns returns_2)
+pub reduce_empty_spec : {M : Type 1} → statement M
+reduce_empty_spec =
+    tie.close (tie.spec reduce_from-requires shape_of-stack-then-k-list shape_of-list-then-k-list returns-then-k-list returns)

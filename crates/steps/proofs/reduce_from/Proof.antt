@@ -4,87 +4,87 @@ use borrow.Author.Rules.{rules}
 use Rattle.steps.proofs.reduce_from.Statement.{statement}
 use Rattle.steps.proofs.reduce_from.Tie as tie
 
-sub-d : tie.Need-overflow-sub-d
-sub-d c = search rules
+overflow_sub-d : tie.Need-overflow_sub-d
+overflow_sub-d c = search rules
 
-left-requires : tie.Need-left-requires
-left-requires c κs = left_in c.before.before.before.before.before.requires
+left-left-requires : tie.Need-left-left-requires
+left-left-requires c κs = left_in c.before.before.before.before.before.requires
 
-cast-left : tie.Need-overflow-cast-left
-cast-left c = search rules
+overflow_cast-left : tie.Need-overflow_cast-left
+overflow_cast-left c = search rules
 
-mul-cell-at : tie.Need-overflow-mul-cell-at
-mul-cell-at c = omega (arith, goto_in c.before.before.before.before.before.before.before.requires c.before.left.ensures, c.before.before.before.before.before.before.before.well-formed)
+overflow_mul-under : tie.Need-overflow_mul-under
+overflow_mul-under c = omega (arith, goto_in c.before.before.before.before.before.before.before.requires c.before.left-left.ensures, c.before.before.before.before.before.before.before.well_formed)
 
-cell-at-requires : tie.Need-cell-at-requires
-cell-at-requires c κs = goto_in c.before.before.before.before.before.before.before.requires c.before.left.ensures
+cell_at-q-requires : tie.Need-cell_at-q-requires
+cell_at-q-requires c κs = goto_in c.before.before.before.before.before.before.before.requires c.before.left-left.ensures
 
-returns : tie.Need-returns
-returns c = reduce_none c.before.before.before.before.before.before.before.before.before.requires c.before.before.before.left.ensures c.before.cell_at.ensures c.if1.true
+returns-then-q-eq0 : tie.Need-returns-then-q-eq0
+returns-then-q-eq0 c = reduce_none c.before.before.before.before.before.before.before.before.before.requires c.before.before.before.left-left.ensures c.before.cell_at-q.ensures c.if-q-eq0.true
 
 pop-requires : tie.Need-pop-requires
 pop-requires c κs = search rules
 
-mul-stack : tie.Need-overflow-mul-stack
-mul-stack c = search rules
+offset_bounds-stack-d : tie.Need-offset_bounds-stack-d
+offset_bounds-stack-d c = search rules
 
-slice-write-stack : tie.Need-slice-write-stack
-slice-write-stack c = search rules
+bounds-stack-d : tie.Need-bounds-stack-d
+bounds-stack-d c = search rules
 
-cast-list : tie.Need-overflow-cast-list
-cast-list c = search rules
+overflow_cast-list : tie.Need-overflow_cast-list
+overflow_cast-list c = search rules
 
-mul-list : tie.Need-overflow-mul-list
-mul-list c = search rules
+offset_bounds-list-k : tie.Need-offset_bounds-list-k
+offset_bounds-list-k c = search rules
 
-slice-write-list : tie.Need-slice-write-list
-slice-write-list c = search rules
+bounds-list-k : tie.Need-bounds-list-k
+bounds-list-k c = search rules
 
-add-t22 : tie.Need-overflow-add-t22
-add-t22 c = search rules
+overflow_add-result : tie.Need-overflow_add-result
+overflow_add-result c = search rules
 
-add-t26 : tie.Need-overflow-add-t26
-add-t26 c = search rules
+overflow_add-result-then-d-stack : tie.Need-overflow_add-result-then-d-stack
+overflow_add-result-then-d-stack c = search rules
 
-sub-t27 : tie.Need-overflow-sub-t27
-sub-t27 c = search rules
+overflow_sub-result : tie.Need-overflow_sub-result
+overflow_sub-result c = search rules
 
-cast-t28 : tie.Need-overflow-cast-t28
-cast-t28 c = search rules
+overflow_cast-result : tie.Need-overflow_cast-result
+overflow_cast-result c = search rules
 
-same_length : tie.Need-same-length
-same_length c = search rules
+shape_of-stack : tie.Need-shape_of-stack
+shape_of-stack c = search rules
 
-same-length-2 : tie.Need-same-length-2
-same-length-2 c = search rules
+shape_of-list : tie.Need-shape_of-list
+shape_of-list c = search rules
 
-returns_2 : tie.Need-returns-2
-returns_2 c = reduce_goes c.before.before.before.before.before.before.before.before.before.before.before.before.before.before.before.requires c.before.before.before.before.before.before.before.before.before.left.ensures c.before.before.before.before.before.before.before.cell_at.ensures c.before.before.before.pop.ensures c.before.before.before.before.before.before.if1.false c.before.before.before.before.before.if2.true
+returns-then-d-stack : tie.Need-returns-then-d-stack
+returns-then-d-stack c = reduce_goes c.before.before.before.before.before.before.before.before.before.before.before.before.before.before.before.requires c.before.before.before.before.before.before.before.before.before.left-left.ensures c.before.before.before.before.before.before.before.cell_at-q.ensures c.before.before.before.pop.ensures c.before.before.before.before.before.before.if-q-eq0.false c.before.before.before.before.before.if-d-stack.true
 
-returns_3 : tie.Need-returns-3
-returns_3 c = reduce_full c.before.before.before.before.before.before.before.before.before.before.requires c.before.before.before.before.left.ensures c.before.before.cell_at.ensures c.before.if1.false c.if2.false
+returns-else-d-stack : tie.Need-returns-else-d-stack
+returns-else-d-stack c = reduce_full c.before.before.before.before.before.before.before.before.before.before.requires c.before.before.before.before.left-left.ensures c.before.before.cell_at-q.ensures c.before.if-q-eq0.false c.if-d-stack.false
 
-pub reduce-from-spec : {M : Type 1} → statement M
-reduce-from-spec =
+pub reduce_from_spec : {M : Type 1} → statement M
+reduce_from_spec =
     tie.close
     (tie.spec
-    sub-d
-    left-requires
-    cast-left
-    mul-cell-at
-    cell-at-requires
-    returns
+    overflow_sub-d
+    left-left-requires
+    overflow_cast-left
+    overflow_mul-under
+    cell_at-q-requires
+    returns-then-q-eq0
     pop-requires
-    mul-stack
-    slice-write-stack
-    cast-list
-    mul-list
-    slice-write-list
-    add-t22
-    add-t26
-    sub-t27
-    cast-t28
-    same_length
-    same-length-2
-    returns_2
-    returns_3)
+    offset_bounds-stack-d
+    bounds-stack-d
+    overflow_cast-list
+    offset_bounds-list-k
+    bounds-list-k
+    overflow_add-result
+    overflow_add-result-then-d-stack
+    overflow_sub-result
+    overflow_cast-result
+    shape_of-stack
+    shape_of-list
+    returns-then-d-stack
+    returns-else-d-stack)

@@ -4,16 +4,16 @@ use borrow.Author.Rules.{rules}
 use Rattle.table_checks.proofs.check.Statement.{statement}
 use Rattle.table_checks.proofs.check.Tie as tie
 
-check-lent-requires : tie.Need-check-lent-requires
-check-lent-requires c κs = no_refusal c.before.before.check-table.ensures c.enum_told.given.1
+check_lent-requires : tie.Need-check_lent-requires
+check_lent-requires c κs = no_refusal c.before.check_table-v.ensures c.in-Passed.is
 
-returns : tie.Need-returns
+returns-in-Refused : tie.Need-returns-in-Refused
 unfolding refusal_of
-returns c = first_refused c.before.before.before.check-table.ensures c.before.v.given.0.0 _ c.before.v.given.1
+returns-in-Refused c = first_refused c.before.check_table-v.ensures c.in-Refused.e _ c.in-Refused.is
 
-returns_2 : tie.Need-returns-2
+returns-in-Passed : tie.Need-returns-in-Passed
 unfolding refusal_of
-returns_2 c = first_passed c.before.before.before.check-table.ensures c.before.enum_told.given.1 c.check-lent.ensures
+returns-in-Passed c = first_passed c.before.before.check_table-v.ensures c.before.in-Passed.is c.check_lent.ensures
 
-pub check-spec : {M : Type 1} → statement M
-check-spec = tie.close (tie.spec (λ c κs. search rules) (λ c. search rules) (λ c. search rules) check-lent-requires returns returns_2)
+pub check_spec : {M : Type 1} → statement M
+check_spec = tie.close (tie.spec (λ c κs. search rules) (λ c. search rules) (λ c. search rules) check_lent-requires returns-in-Refused returns-in-Passed)

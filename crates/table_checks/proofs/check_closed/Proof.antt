@@ -5,14 +5,14 @@ use Rattle.machine.proofs.Checked.{checked}
 use Rattle.table_checks.proofs.check_closed.Statement.{statement}
 use Rattle.table_checks.proofs.check_closed.Tie as tie
 
-shape-of-requires : tie.Need-shape-of-requires
-shape-of-requires c κs = (checked _ c.before.requires).long
+shape_of-requires : tie.Need-shape_of-requires
+shape_of-requires c κs = (checked _ c.before.requires).long
+
+returns-then-not-closed_ok : tie.Need-returns-then-not-closed_ok
+returns-then-not-closed_ok c = rw (sym (c.before.closed_ok.ensures _ (sym c.before.before.shape_of.ensures.terminals_are)) ∙ not-true _ c.if-not-closed_ok.true-raw)
 
 returns : tie.Need-returns
-returns c = rw (sym (c.before.closed-ok.ensures _ (sym c.before.before.shape_of.ensures.terminals_are)) ∙ not-true _ c.if1.true)
+returns c = rw (sym (c.before.closed_ok.ensures _ (sym c.before.before.shape_of.ensures.terminals_are)) ∙ not-false _ c.if-not-closed_ok.false-raw)
 
-returns_2 : tie.Need-returns-2
-returns_2 c = rw (sym (c.before.closed-ok.ensures _ (sym c.before.before.shape_of.ensures.terminals_are)) ∙ not-false _ c.if1.false)
-
-pub check-closed-spec : {M : Type 1} → statement M
-check-closed-spec = tie.close (tie.spec shape-of-requires (λ c κs. search rules) returns returns_2)
+pub check_closed_spec : {M : Type 1} → statement M
+check_closed_spec = tie.close (tie.spec shape_of-requires (λ c κs. search rules) returns-then-not-closed_ok returns)

@@ -3,11 +3,11 @@ use borrow.Author.Rules.{rules}
 use Rattle.table_checks.proofs.check_lent.Statement.{statement}
 use Rattle.table_checks.proofs.check_lent.Tie as tie
 
-returns : tie.Need-returns
-returns c = first_refused c.before.before.before.check-input.ensures c.before.v.given.0.0 _ c.before.v.given.1
+returns-in-Refused : tie.Need-returns-in-Refused
+returns-in-Refused c = first_refused c.before.check_input-v.ensures c.in-Refused.e _ c.in-Refused.is
 
-returns_2 : tie.Need-returns-2
-returns_2 c = first_passed c.before.before.before.check-input.ensures c.before.enum_told.given.1 c.check-areas.ensures
+returns-in-Passed : tie.Need-returns-in-Passed
+returns-in-Passed c = first_passed c.before.before.check_input-v.ensures c.before.in-Passed.is c.check_areas.ensures
 
-pub check-lent-spec : {M : Type 1} → statement M
-check-lent-spec = tie.close (tie.spec (λ c κs. search rules) (λ c. search rules) (λ c. search rules) (λ c κs. search rules) returns returns_2)
+pub check_lent_spec : {M : Type 1} → statement M
+check_lent_spec = tie.close (tie.spec (λ c κs. search rules) (λ c. search rules) (λ c. search rules) (λ c κs. search rules) returns-in-Refused returns-in-Passed)

@@ -5,17 +5,17 @@ use borrow.Author.Rules.{rules}
 use Rattle.table_checks.proofs.check_restricted.Statement.{statement}
 use Rattle.table_checks.proofs.check_restricted.Tie as tie
 
-check-closed-requires : tie.Need-check-closed-requires
+check_closed-requires : tie.Need-check_closed-requires
 unfolding refusal_of
-check-closed-requires c κs = (neither _ _ (no_refusal c.before.before.check.ensures c.enum_told.given.1)).0
+check_closed-requires c κs = (neither _ _ (no_refusal c.before.check-v.ensures c.in-Passed.is)).0
 
-returns : tie.Need-returns
+returns-in-Refused : tie.Need-returns-in-Refused
 unfolding restricted_refusal
-returns c = first_refused c.before.before.before.check.ensures c.before.v.given.0.0 _ c.before.v.given.1
+returns-in-Refused c = first_refused c.before.check-v.ensures c.in-Refused.e _ c.in-Refused.is
 
-returns_2 : tie.Need-returns-2
+returns-in-Passed : tie.Need-returns-in-Passed
 unfolding restricted_refusal
-returns_2 c = first_passed c.before.before.before.check.ensures c.before.enum_told.given.1 c.check-closed.ensures
+returns-in-Passed c = first_passed c.before.before.check-v.ensures c.before.in-Passed.is c.check_closed.ensures
 
-pub check-restricted-spec : {M : Type 1} → statement M
-check-restricted-spec = tie.close (tie.spec (λ c κs. search rules) (λ c. search rules) (λ c. search rules) check-closed-requires returns returns_2)
+pub check_restricted_spec : {M : Type 1} → statement M
+check_restricted_spec = tie.close (tie.spec (λ c κs. search rules) (λ c. search rules) (λ c. search rules) check_closed-requires returns-in-Refused returns-in-Passed)

@@ -5,20 +5,20 @@ use borrow.Author.Rules.{rules}
 use Rattle.table_checks.proofs.check_table.Statement.{statement}
 use Rattle.table_checks.proofs.check_table.Tie as tie
 
-returns : tie.Need-returns
+returns-then-t-lt4 : tie.Need-returns-then-t-lt4
 unfolding table_refusal
-returns c = rw (lt-leb _ _ c.if1.true)
+returns-then-t-lt4 c = rw (lt-leb _ _ c.if-t-lt4.true)
 
-returns_2 : tie.Need-returns-2
+returns-then-not-sizes_ok : tie.Need-returns-then-not-sizes_ok
 unfolding table_refusal
-returns_2 c = rw (le-leb _ _ c.before.before.before.if1.false, (sym c.before.sizes-ok.ensures ∙ not-true _ c.if2.true))
+returns-then-not-sizes_ok c = rw (le-leb _ _ c.before.before.before.if-t-lt4.false, (sym c.before.sizes_ok.ensures ∙ not-true _ c.if-not-sizes_ok.true-raw))
 
-returns_3 : tie.Need-returns-3
+returns-then-t-size : tie.Need-returns-then-t-size
 unfolding table_refusal
-returns_3 c = rw (le-leb _ _ c.before.before.before.before.before.if1.false, (sym c.before.before.before.sizes-ok.ensures ∙ not-false _ c.before.before.if2.false), ← c.before.size.ensures, lt-leb _ _ c.if3.true)
+returns-then-t-size c = rw (le-leb _ _ c.before.before.before.before.before.if-t-lt4.false, (sym c.before.before.before.sizes_ok.ensures ∙ not-false _ c.before.before.if-not-sizes_ok.false-raw), ← c.before.size.ensures, lt-leb _ _ c.if-t-size.true)
 
-check-parts-requires : tie.Need-check-parts-requires
-check-parts-requires c κs = record { shaped = c.before.before.before.before.shape_of.ensures; sizes = sym c.before.before.before.sizes-ok.ensures ∙ not-false _ c.before.before.if2.false; whole = rw c.before.size.ensures at c.if3.false }
+check_parts-requires : tie.Need-check_parts-requires
+check_parts-requires c κs = record { shaped = c.before.before.before.before.shape_of-z.ensures; sizes = sym c.before.before.before.sizes_ok.ensures ∙ not-false _ c.before.before.if-not-sizes_ok.false-raw; whole = rw c.before.size.ensures at c.if-t-size.false }
 
-pub check-table-spec : {M : Type 1} → statement M
-check-table-spec = tie.close (tie.spec returns (λ c κs. search rules) (λ c κs. search rules) returns_2 (λ c κs. search rules) returns_3 check-parts-requires (λ c. search rules))
+pub check_table_spec : {M : Type 1} → statement M
+check_table_spec = tie.close (tie.spec returns-then-t-lt4 (λ c κs. search rules) (λ c κs. search rules) returns-then-not-sizes_ok (λ c κs. search rules) returns-then-t-size check_parts-requires (λ c. search rules))

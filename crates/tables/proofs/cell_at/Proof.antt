@@ -3,35 +3,35 @@ use borrow.Author.Rules.{rules}
 use Rattle.tables.proofs.cell_at.Statement.{statement}
 use Rattle.tables.proofs.cell_at.Tie as tie
 
-mul-part : tie.Need-overflow-mul-part
-mul-part c = search rules
+offset_bounds-cells-from : tie.Need-offset_bounds-cells-from
+offset_bounds-cells-from c = search rules
 
-sub_part : tie.Need-overflow-sub-part
-sub_part c = search rules
+slice_bounds-part-count : tie.Need-slice_bounds-part-count
+slice_bounds-part-count c = search rules
 
-part-part-start : tie.Need-slice-bounds-part-start
-part-part-start c = search rules
+slice_bounds-part-start : tie.Need-slice_bounds-part-start
+slice_bounds-part-start c = search rules
 
-part-part-end : tie.Need-slice-bounds-part-end
-part-part-end c = search rules
+slice_bounds-part-end : tie.Need-slice_bounds-part-end
+slice_bounds-part-end c = search rules
 
-mul-result : tie.Need-overflow-mul-result
-mul-result c = search rules
+offset_bounds-part-i : tie.Need-offset_bounds-part-i
+offset_bounds-part-i c = search rules
 
-shared-slice-read-result : tie.Need-shared-slice-read-result
-shared-slice-read-result c = search rules
+bounds-part-i : tie.Need-bounds-part-i
+bounds-part-i c = search rules
 
 returns : tie.Need-returns
 returns c = part_get_d c.before.before.args.cells.now c.before.before.args.from c.before.before.args.i c.before.before.requires
 
-pub cell-at-spec : {M : Type 1} → statement M
-cell-at-spec =
+pub cell_at_spec : {M : Type 1} → statement M
+cell_at_spec =
     tie.close
     (tie.spec
-    mul-part
-    sub_part
-    part-part-start
-    part-part-end
-    mul-result
-    shared-slice-read-result
+    offset_bounds-cells-from
+    slice_bounds-part-count
+    slice_bounds-part-start
+    slice_bounds-part-end
+    offset_bounds-part-i
+    bounds-part-i
     returns)

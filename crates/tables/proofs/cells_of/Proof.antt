@@ -3,21 +3,21 @@ use borrow.Author.Rules.{rules}
 use Rattle.tables.proofs.cells_of.Statement.{statement}
 use Rattle.tables.proofs.cells_of.Tie as tie
 
-mul-result : tie.Need-overflow-mul-result
-mul-result c = search rules
+offset_bounds-t-from : tie.Need-offset_bounds-t-from
+offset_bounds-t-from c = search rules
 
-sub-result : tie.Need-overflow-sub-result
-sub-result c = search rules
+slice_bounds-result-count : tie.Need-slice_bounds-result-count
+slice_bounds-result-count c = search rules
 
-part-result-start : tie.Need-slice-bounds-result-start
-part-result-start c = search rules
+slice_bounds-result-start : tie.Need-slice_bounds-result-start
+slice_bounds-result-start c = search rules
 
-part-result-end : tie.Need-slice-bounds-result-end
-part-result-end c = search rules
+slice_bounds-result-end : tie.Need-slice_bounds-result-end
+slice_bounds-result-end c = search rules
 
 returns : tie.Need-returns
 returns c = part_all c.before.args.t.now c.before.args.z.cells
 
-pub cells-of-spec : {M : Type 1} → statement M
-cells-of-spec =
-    tie.close (tie.spec mul-result sub-result part-result-start part-result-end returns)
+pub cells_of_spec : {M : Type 1} → statement M
+cells_of_spec =
+    tie.close (tie.spec offset_bounds-t-from slice_bounds-result-count slice_bounds-result-start slice_bounds-result-end returns)

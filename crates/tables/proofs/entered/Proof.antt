@@ -8,6 +8,6 @@ returns : tie.Need-returns
 unfolding entered_of
 returns c = rw (c.before.entered_at.ensures, c.before.before.before.requires.0.productions_are) refl
 
-pub entered-spec : {M : Type 1} → statement M
-entered-spec =
+pub entered_spec : {M : Type 1} → statement M
+entered_spec =
     tie.close (tie.spec (λ c κs. search rules) (λ c. search rules) (λ c. search rules) returns)

@@ -8,6 +8,6 @@ returns : tie.Need-returns
 unfolding left_of
 returns c = rw c.before.left_at.ensures refl
 
-pub left-spec : {M : Type 1} → statement M
-left-spec =
+pub left_spec : {M : Type 1} → statement M
+left_spec =
     tie.close (tie.spec (λ c κs. search rules) (λ c. search rules) (λ c. search rules) returns)

@@ -8,6 +8,6 @@ returns : tie.Need-returns
 unfolding length_of
 returns c = rw (c.before.length_at.ensures, c.before.before.before.requires.0.productions_are) refl
 
-pub length-of-spec : {M : Type 1} → statement M
-length-of-spec =
+pub length_of_spec : {M : Type 1} → statement M
+length_of_spec =
     tie.close (tie.spec (λ c κs. search rules) (λ c. search rules) (λ c. search rules) returns)

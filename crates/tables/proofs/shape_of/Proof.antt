@@ -14,18 +14,18 @@ returns c =
     let b3 = b2.before in
     let b4 = b3.before in
     record {
-      states_are = b4.number.ensures.0;
-      terminals_are = b3.number2.ensures.0;
-      productions_are = b2.number3.ensures.0;
-      width_is = ap₂ ◌+◌ b3.number2.ensures.0 b1.number4.ensures.0;
-      cells_at = c.cells_at.ensures ∙ ap₂ cells_at b2.number3.ensures.0 b4.number.ensures.0;
-      states_fit = b4.number.ensures.1;
-      productions_fit = b2.number3.ensures.1;
-      width_fits = omega (arith, b3.number2.ensures.1, b1.number4.ensures.1);
+      states_are = b4.number-q.ensures.0;
+      terminals_are = b3.number-n.ensures.0;
+      productions_are = b2.number-p.ensures.0;
+      width_is = ap₂ ◌+◌ b3.number-n.ensures.0 b1.number.ensures.0;
+      cells_at = c.cells_at.ensures ∙ ap₂ cells_at b2.number-p.ensures.0 b4.number-q.ensures.0;
+      states_fit = b4.number-q.ensures.1;
+      productions_fit = b2.number-p.ensures.1;
+      width_fits = omega (arith, b3.number-n.ensures.1, b1.number.ensures.1);
     }
 
-pub shape-of-spec : {M : Type 1} → statement M
-shape-of-spec =
+pub shape_of_spec : {M : Type 1} → statement M
+shape_of_spec =
     tie.close
     (tie.spec
     (λ c κs. search rules)

@@ -15,8 +15,8 @@ clear-requires c κs =
     let prepare = c.before.before.before.prepare in
     (omega arith, omega (arith, prepare.ensures.long, pre.2))
 
-rows-requires : tie.Need-rows-requires
-rows-requires c κs =
+rows-k-requires : tie.Need-rows-k-requires
+rows-k-requires c κs =
     let pre = c.before.before.before.before.before.before.before.before.before.before.before.before.requires in
     let prepare = c.before.before.before.before.before.before.before.prepare in
     let clear = c.before.before.before.clear in
@@ -27,15 +27,15 @@ close-requires c κs =
     let pre = c.before.before.before.before.before.before.before.before.before.before.before.before.before.before.before.before.requires in
     let prepare = c.before.before.before.before.before.before.before.before.before.before.before.prepare in
     let clear = c.before.before.before.before.before.before.before.clear in
-    let rows = c.before.before.before.rows in
+    let rows = c.before.before.before.rows-k in
     (pre.1.most, omega (arith, rows.ensures.rest.long, clear.ensures.long, prepare.ensures.long, pre.2))
 
-same_length : tie.Need-same-length
-same_length c =
+shape_of-w : tie.Need-shape_of-w
+shape_of-w c =
     let pre = c.before.before.before.before.before.before.before.before.before.before.before.before.before.before.before.before.before.before.before.requires in
     let prepare = c.before.before.before.before.before.before.before.before.before.before.before.before.before.before.prepare in
     let clear = c.before.before.before.before.before.before.before.before.before.before.clear in
-    let rows = c.before.before.before.before.before.before.rows in
+    let rows = c.before.before.before.before.before.before.rows-k in
     let close = c.before.before.close in
     let C = close.ensures _ _ pre.1 (well_formed _ pre.0).limits.terminals_from rows.ensures.passed in omega (arith, C.rest.long, rows.ensures.rest.long, clear.ensures.long, prepare.ensures.long)
 
@@ -44,11 +44,11 @@ returns c =
     let pre = c.before.before.before.before.before.before.before.before.before.before.before.before.before.before.before.before.before.before.before.requires in
     let prepare = c.before.before.before.before.before.before.before.before.before.before.before.before.before.before.prepare in
     let clear = c.before.before.before.before.before.before.before.before.before.before.clear in
-    let rows = c.before.before.before.before.before.before.rows in
+    let rows = c.before.before.before.before.before.before.rows-k in
     let close = c.before.before.close in
     built _ _ _ pre.1 (well_formed _ pre.0).limits.terminals_from pre.0 _ _ _ _ _ _ _ prepare.ensures clear.ensures rows.ensures (close.ensures _ _ pre.1 (well_formed _ pre.0).limits.terminals_from rows.ensures.passed)
 
-pub build-spec : {M : Type 1} → statement M
-build-spec =
+pub build_spec : {M : Type 1} → statement M
+build_spec =
     tie.close
-    (tie.spec prepare-requires clear-requires rows-requires close-requires same_length returns)
+    (tie.spec prepare-requires clear-requires rows-k-requires close-requires shape_of-w returns)

@@ -10,121 +10,121 @@ use Rattle.transition_lists.proofs.WordLaws.{copied_direct, copied_end, enters_b
 use Rattle.transition_lists.proofs.direct.Statement.{statement}
 use Rattle.transition_lists.proofs.direct.Tie as tie
 
-abbrev invariant_loop : tie.invariant-loop
-invariant_loop c t w z₀ n k i₀ z i = (i ≤ k) × (length z ≡ length z₀) × ((a : List ℕ) → Copied c w (next_of c t n) a z₀ n 0 → Copied c w (next_of c t n) a z n i)
+abbrev invariant-loop-i : tie.invariant-loop-i
+invariant-loop-i c t w z₀ n k i₀ z i = (i ≤ k) × (length z ≡ length z₀) × ((a : List ℕ) → Copied c w (next_of c t n) a z₀ n 0 → Copied c w (next_of c t n) a z n i)
 
-abbrev decreases_loop : tie.decreases-loop
-decreases_loop c t w z₀ n k i₀ z i = k - i
+abbrev decreases-loop-i : tie.decreases-loop-i
+decreases-loop-i c t w z₀ n k i₀ z i = k - i
 
-words-requires : tie.Need-words-requires invariant_loop decreases_loop
+words-requires : tie.Need-words-requires invariant-loop-i decreases-loop-i
 words-requires c κs =
     let pre = c.before.before.before.before.before.requires in
     (pre.2.ordered.formed, pre.0.most, pre.1)
 
-loop_holds : tie.Need-loop-init invariant_loop decreases_loop
-loop_holds c = (omega arith, refl, λ a C. C)
+loop-i-init : tie.Need-loop-i-init invariant-loop-i decreases-loop-i
+loop-i-init c = (omega arith, refl, λ a C. C)
 
-enters-requires : tie.Need-enters-requires invariant_loop decreases_loop
+enters-requires : tie.Need-enters-requires invariant-loop-i decreases-loop-i
 enters-requires c κs = search rules
 
-wide32-requires : tie.Need-wide32-requires invariant_loop decreases_loop
-wide32-requires c κs = search rules
+wide32-j-requires : tie.Need-wide32-j-requires invariant-loop-i decreases-loop-i
+wide32-j-requires c κs = search rules
 
-add-j : tie.Need-overflow-add-j invariant_loop decreases_loop
-add-j c = search rules
+overflow_add-j : tie.Need-overflow_add-j invariant-loop-i decreases-loop-i
+overflow_add-j c = search rules
 
-wide32-requires-2 : tie.Need-wide32-requires-2 invariant_loop decreases_loop
-wide32-requires-2 c κs = search rules
+wide32-o-requires : tie.Need-wide32-o-requires invariant-loop-i decreases-loop-i
+wide32-o-requires c κs = search rules
 
-mul-z : tie.Need-overflow-mul-z invariant_loop decreases_loop
-mul-z c =
+offset_bounds-z-j : tie.Need-offset_bounds-z-j invariant-loop-i decreases-loop-i
+offset_bounds-z-j c =
     let pre = c.before.before.before.before.before.before.before.before.before.before.before.before.before.requires in
-    let loop = c.before.before.before.before.loop in
-    let loop-test = c.before.before.before.loop-test in
+    let loop = c.before.before.before.before.loop-i in
+    let loop-test = c.before.before.before.loop-i-test in
     let enters = c.before.before.enters in
-    let wide32 = c.before.wide32 in
+    let wide32 = c.before.wide32-j in
     let b = enters_below _ _ _ _ _ pre.0 pre.2 loop.i loop-test.true in omega (arith, pre.0.most, enters.ensures, wide32.ensures)
 
-slice-read-z : tie.Need-slice-read-z invariant_loop decreases_loop
-slice-read-z c =
+bounds-z-j : tie.Need-bounds-z-j invariant-loop-i decreases-loop-i
+bounds-z-j c =
     let args = c.before.before.before.before.before.before.before.before.before.before.before.before.before.before.args in
     let pre = c.before.before.before.before.before.before.before.before.before.before.before.before.before.before.requires in
     let words = c.before.before.before.before.before.before.before.before.words in
-    let loop = c.before.before.before.before.before.loop in
-    let loop-test = c.before.before.before.before.loop-test in
+    let loop = c.before.before.before.before.before.loop-i in
+    let loop-test = c.before.before.before.before.loop-i-test in
     let enters = c.before.before.before.enters in
-    let wide32 = c.before.before.wide32 in
+    let wide32 = c.before.before.wide32-j in
     let b = enters_below _ _ _ _ _ pre.0 pre.2 loop.i loop-test.true in omega (arith, pre.0.most, enters.ensures, wide32.ensures, loop.invariant.1, (words.ensures args.w.now).long, pre.1)
 
-ending-requires : tie.Need-ending-requires invariant_loop decreases_loop
+ending-requires : tie.Need-ending-requires invariant-loop-i decreases-loop-i
 ending-requires c κs = search rules
 
-mul-z-2 : tie.Need-overflow-mul-z-2 invariant_loop decreases_loop
-mul-z-2 c =
+offset_bounds-z-o : tie.Need-offset_bounds-z-o invariant-loop-i decreases-loop-i
+offset_bounds-z-o c =
     let pre = c.before.before.before.before.before.before.before.before.before.before.before.before.before.before.before.requires in
-    let wide322 = c.before.before.wide322 in
+    let wide322 = c.before.before.wide32-o in
     omega (arith, pre.2.ordered.few, wide322.ensures)
 
-slice-write-z : tie.Need-slice-write-z invariant_loop decreases_loop
-slice-write-z c =
+bounds-z-o : tie.Need-bounds-z-o invariant-loop-i decreases-loop-i
+bounds-z-o c =
     let args = c.before.before.before.before.before.before.before.before.before.before.before.before.before.before.before.args in
     let pre = c.before.before.before.before.before.before.before.before.before.before.before.before.before.before.before.requires in
     let words = c.before.before.before.before.before.before.before.before.before.words in
-    let loop = c.before.before.before.before.before.before.loop in
-    let wide322 = c.before.before.wide322 in
+    let loop = c.before.before.before.before.before.before.loop-i in
+    let wide322 = c.before.before.wide32-o in
     omega (arith, pre.2.ordered.few, wide322.ensures, loop.invariant.1, (words.ensures args.w.now).long, pre.1)
 
-add_i : tie.Need-overflow-add-i invariant_loop decreases_loop
-add_i c = search rules
+overflow_add-i : tie.Need-overflow_add-i invariant-loop-i decreases-loop-i
+overflow_add-i c = search rules
 
-loop_less : tie.Need-loop-smaller invariant_loop decreases_loop
-loop_less c = search rules
+loop-i-smaller : tie.Need-loop-i-smaller invariant-loop-i decreases-loop-i
+loop-i-smaller c = search rules
 
-loop_again : tie.Need-loop-preserved invariant_loop decreases_loop
-loop_again c =
+loop-i-preserved : tie.Need-loop-i-preserved invariant-loop-i decreases-loop-i
+loop-i-preserved c =
     let args = c.before.before.before.before.before.before.before.before.before.before.before.before.before.before.before.args in
     let pre = c.before.before.before.before.before.before.before.before.before.before.before.before.before.before.before.requires in
     let words = c.before.before.before.before.before.before.before.before.before.words in
-    let loop = c.before.before.before.before.before.before.loop in
-    let loop-test = c.before.before.before.before.before.loop-test in
+    let loop = c.before.before.before.before.before.before.loop-i in
+    let loop-test = c.before.before.before.before.before.loop-i-test in
     let enters = c.before.before.before.before.enters in
-    let wide32 = c.before.before.before.wide32 in
-    let wide322 = c.before.before.wide322 in
+    let wide32 = c.before.before.before.wide32-j in
+    let wide322 = c.before.before.wide32-o in
     (omega arith, simp length-set loop.invariant.1, λ a C. copied_direct _ _ _ _ _ _ _ _ _ _ wide322.ensures (wide32.ensures ∙ enters.ensures) (enters_below _ _ _ _ _ pre.0 pre.2 loop.i loop-test.true) (omega (arith, pre.2.ordered.few)) (omega (arith, loop.invariant.1, (words.ensures args.w.now).long, pre.1)) c.ending.ensures (loop.invariant.2 a C))
 
-same_length : tie.Need-same-length invariant_loop decreases_loop
-same_length c =
+shape_of-z : tie.Need-shape_of-z invariant-loop-i decreases-loop-i
+shape_of-z c =
     let args = c.before.before.before.before.before.before.before.before.before.before.args in
     let words = c.before.before.before.before.words in
-    let loop = c.before.loop in
+    let loop = c.before.loop-i in
     loop.invariant.1 ∙ (words.ensures args.w.now).long
 
-returns : tie.Need-returns invariant_loop decreases_loop
+returns : tie.Need-returns invariant-loop-i decreases-loop-i
 returns c =
     let pre = c.before.before.before.before.before.before.before.before.before.before.requires in
     let words = c.before.before.before.before.words in
-    let loop = c.before.loop in
-    copied_end _ _ _ _ _ _ _ _ pre.0.most loop.invariant.0 c.loop-test.false (loop.invariant.2 _ (words.ensures _))
+    let loop = c.before.loop-i in
+    copied_end _ _ _ _ _ _ _ _ pre.0.most loop.invariant.0 c.loop-i-test.false (loop.invariant.2 _ (words.ensures _))
 
-pub direct-spec : {M : Type 1} → statement M
-direct-spec =
+pub direct_spec : {M : Type 1} → statement M
+direct_spec =
     tie.close
     (tie.spec
-    invariant_loop
-    decreases_loop
+    invariant-loop-i
+    decreases-loop-i
     words-requires
-    loop_holds
+    loop-i-init
     enters-requires
-    wide32-requires
-    add-j
-    wide32-requires-2
-    mul-z
-    slice-read-z
+    wide32-j-requires
+    overflow_add-j
+    wide32-o-requires
+    offset_bounds-z-j
+    bounds-z-j
     ending-requires
-    mul-z-2
-    slice-write-z
-    add_i
-    loop_less
-    loop_again
-    same_length
+    offset_bounds-z-o
+    bounds-z-o
+    overflow_add-i
+    loop-i-smaller
+    loop-i-preserved
+    shape_of-z
     returns)

@@ -7,8 +7,8 @@ use Rattle.transition_lists.proofs.ending.Tie as tie
 leaves-requires : tie.Need-leaves-requires
 leaves-requires c κs = search rules
 
-returns : tie.Need-returns
-returns c = ending_none _ _ _ (λ z. c.if1.true (c.before.leaves.ensures ∙ z.state))
+returns-then-leaves-ne0 : tie.Need-returns-then-leaves-ne0
+returns-then-leaves-ne0 c = ending_none _ _ _ (λ z. c.if-leaves-ne0.true (c.before.leaves.ensures ∙ z.state))
 
 nonterminal-requires : tie.Need-nonterminal-requires
 nonterminal-requires c κs = search rules
@@ -19,30 +19,30 @@ terminals-requires c κs = search rules
 wider-requires : tie.Need-wider-requires
 wider-requires c κs = search rules
 
-returns_2 : tie.Need-returns-2
-returns_2 c =
+returns-then-nonterminal-wider : tie.Need-returns-then-nonterminal-wider
+returns-then-nonterminal-wider c =
     let nonterminal = c.before.before.before.nonterminal in
     let terminals' = c.before.before.terminals in
     let wider = c.before.wider in
-    ending_none _ _ _ (λ z. c.if2.true (nonterminal.ensures ∙ z.start ∙ sym (wider.ensures ∙ terminals'.ensures)))
+    ending_none _ _ _ (λ z. c.if-nonterminal-wider.true (nonterminal.ensures ∙ z.start ∙ sym (wider.ensures ∙ terminals'.ensures)))
 
-returns_3 : tie.Need-returns-3
-returns_3 c =
+returns : tie.Need-returns
+returns c =
     let leaves = c.before.before.before.before.before.leaves in
-    let if1 = c.before.before.before.before.if1 in
+    let if1 = c.before.before.before.before.if-leaves-ne0 in
     let nonterminal = c.before.before.before.nonterminal in
     let terminals' = c.before.before.terminals in
     let wider = c.before.wider in
-    ending_one _ _ _ (record { state = sym leaves.ensures ∙ if1.false; start = sym nonterminal.ensures ∙ c.if2.false ∙ wider.ensures ∙ terminals'.ensures })
+    ending_one _ _ _ (record { state = sym leaves.ensures ∙ if1.false; start = sym nonterminal.ensures ∙ c.if-nonterminal-wider.false ∙ wider.ensures ∙ terminals'.ensures })
 
-pub ending-spec : {M : Type 1} → statement M
-ending-spec =
+pub ending_spec : {M : Type 1} → statement M
+ending_spec =
     tie.close
     (tie.spec
     leaves-requires
-    returns
+    returns-then-leaves-ne0
     nonterminal-requires
     terminals-requires
     wider-requires
-    returns_2
-    returns_3)
+    returns-then-nonterminal-wider
+    returns)

@@ -3,14 +3,14 @@ use borrow.Author.Rules.{rules}
 use Rattle.transition_lists.proofs.mark.Statement.{statement}
 use Rattle.transition_lists.proofs.mark.Tie as tie
 
-returns : tie.Need-returns
-returns c = joined_none _ _ _ c.if1.true
+returns-then-v-eq0 : tie.Need-returns-then-v-eq0
+returns-then-v-eq0 c = joined_none _ _ _ c.if-v-eq0.true
 
 with-requires : tie.Need-with-requires
 with-requires c κs = search rules
 
-returns_2 : tie.Need-returns-2
-returns_2 c = joined_one _ _ _ _ c.before.if1.false c.with.ensures
+returns : tie.Need-returns
+returns c = joined_one _ _ _ _ c.before.if-v-eq0.false c.with.ensures
 
 pub mark_spec : {M : Type 1} → statement M
-mark_spec = tie.close (tie.spec returns with-requires returns_2)
+mark_spec = tie.close (tie.spec returns-then-v-eq0 with-requires returns)

@@ -18,5 +18,5 @@ returns c =
     let e = c.row.ensures in
     (e ∙ ap (row_of _) c.before.wide32.ensures, omega (arith, e, place_small c.before))
 
-pub row-at-spec : {M : Type 1} → statement M
-row-at-spec = tie.close (tie.spec (λ c κs. search rules) (λ c κs. place_small c) returns)
+pub row_at_spec : {M : Type 1} → statement M
+row_at_spec = tie.close (tie.spec (λ c κs. search rules) (λ c κs. place_small c) returns)

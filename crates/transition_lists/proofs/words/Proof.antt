@@ -10,70 +10,70 @@ use Rattle.transition_lists.proofs.WordLaws.{copied_start, copied_word, copied_a
 use Rattle.transition_lists.proofs.words.Statement.{statement}
 use Rattle.transition_lists.proofs.words.Tie as tie
 
-abbrev invariant_loop : tie.invariant-loop
-invariant_loop c t z₀ n q₀ z q = (q ≤ n) × (length z ≡ length z₀) × ((w : List ℕ) → Copied c w (next_of c t n) z₀ z q 0)
+abbrev invariant-loop-q : tie.invariant-loop-q
+invariant-loop-q c t z₀ n q₀ z q = (q ≤ n) × (length z ≡ length z₀) × ((w : List ℕ) → Copied c w (next_of c t n) z₀ z q 0)
 
-abbrev decreases_loop : tie.decreases-loop
-decreases_loop c t z₀ n q₀ z q = n - q
+abbrev decreases-loop-q : tie.decreases-loop-q
+decreases-loop-q c t z₀ n q₀ z q = n - q
 
-loop_holds : tie.Need-loop-init invariant_loop decreases_loop
-loop_holds c = (omega arith, refl, λ w. copied_start _ _ _ _)
+loop-q-init : tie.Need-loop-q-init invariant-loop-q decreases-loop-q
+loop-q-init c = (omega arith, refl, λ w. copied_start _ _ _ _)
 
-wide32-requires : tie.Need-wide32-requires invariant_loop decreases_loop
-wide32-requires c κs = search rules
+wide32-i-requires : tie.Need-wide32-i-requires invariant-loop-q decreases-loop-q
+wide32-i-requires c κs = search rules
 
-add_i : tie.Need-overflow-add-i invariant_loop decreases_loop
-add_i c = search rules
+overflow_add-i : tie.Need-overflow_add-i invariant-loop-q decreases-loop-q
+overflow_add-i c = search rules
 
-shifts-requires : tie.Need-shifts-requires invariant_loop decreases_loop
+shifts-requires : tie.Need-shifts-requires invariant-loop-q decreases-loop-q
 shifts-requires c κs =
     let pre = c.before.before.before.before.before.before.requires in
-    let loop-test = c.before.loop-test in
+    let loop-test = c.before.loop-q-test in
     (pre.0, loop-test.true, pre.1)
 
-mul-z : tie.Need-overflow-mul-z invariant_loop decreases_loop
-mul-z c = omega (arith, c.before.before.before.before.before.before.before.requires.1)
+offset_bounds-z-i : tie.Need-offset_bounds-z-i invariant-loop-q decreases-loop-q
+offset_bounds-z-i c = omega (arith, c.before.before.before.before.before.before.before.requires.1)
 
-slice-write-z : tie.Need-slice-write-z invariant_loop decreases_loop
-slice-write-z c =
+bounds-z-i : tie.Need-bounds-z-i invariant-loop-q decreases-loop-q
+bounds-z-i c =
     let pre = c.before.before.before.before.before.before.before.requires in
-    let loop = c.before.before.before.loop in
-    let wide32 = c.before.wide32 in
+    let loop = c.before.before.before.loop-q in
+    let wide32 = c.before.wide32-i in
     omega (arith, pre.1, pre.2, loop.invariant.1, wide32.ensures)
 
-add-q : tie.Need-overflow-add-q invariant_loop decreases_loop
-add-q c = omega (arith, c.before.before.before.before.before.before.before.requires.1)
+overflow_add-q : tie.Need-overflow_add-q invariant-loop-q decreases-loop-q
+overflow_add-q c = omega (arith, c.before.before.before.before.before.before.before.requires.1)
 
-loop_less : tie.Need-loop-smaller invariant_loop decreases_loop
-loop_less c = search rules
+loop-q-smaller : tie.Need-loop-q-smaller invariant-loop-q decreases-loop-q
+loop-q-smaller c = search rules
 
-loop_again : tie.Need-loop-preserved invariant_loop decreases_loop
-loop_again c =
+loop-q-preserved : tie.Need-loop-q-preserved invariant-loop-q decreases-loop-q
+loop-q-preserved c =
     let pre = c.before.before.before.before.before.before.before.requires in
-    let loop = c.before.before.before.loop in
-    let wide32 = c.before.wide32 in
+    let loop = c.before.before.before.loop-q in
+    let wide32 = c.before.wide32-i in
     (omega arith, simp length-set loop.invariant.1, λ w. copied_word _ w _ _ _ _ _ _ wide32.ensures (omega (arith, pre.1)) (omega (arith, pre.2, loop.invariant.1)) c.shifts.ensures (loop.invariant.2 w))
 
-same_length : tie.Need-same-length invariant_loop decreases_loop
-same_length c = c.before.loop.invariant.1
+shape_of-z : tie.Need-shape_of-z invariant-loop-q decreases-loop-q
+shape_of-z c = c.before.loop-q.invariant.1
 
-returns : tie.Need-returns invariant_loop decreases_loop
-returns c = λ w. copied_all _ w _ _ _ _ _ _ c.before.loop.invariant.0 c.loop-test.false (c.before.loop.invariant.2 w)
+returns : tie.Need-returns invariant-loop-q decreases-loop-q
+returns c = λ w. copied_all _ w _ _ _ _ _ _ c.before.loop-q.invariant.0 c.loop-q-test.false (c.before.loop-q.invariant.2 w)
 
-pub words-spec : {M : Type 1} → statement M
-words-spec =
+pub words_spec : {M : Type 1} → statement M
+words_spec =
     tie.close
     (tie.spec
-    invariant_loop
-    decreases_loop
-    loop_holds
-    wide32-requires
-    add_i
+    invariant-loop-q
+    decreases-loop-q
+    loop-q-init
+    wide32-i-requires
+    overflow_add-i
     shifts-requires
-    mul-z
-    slice-write-z
-    add-q
-    loop_less
-    loop_again
-    same_length
+    offset_bounds-z-i
+    bounds-z-i
+    overflow_add-q
+    loop-q-smaller
+    loop-q-preserved
+    shape_of-z
     returns)

@@ -5,5 +5,5 @@ use Rattle.transitions.proofs.after.Tie as tie
 returns : tie.Need-returns
 returns c = cc
 
-pub after-spec : {M : Type 1} → statement M
-after-spec = tie.close (tie.spec (λ c κs. search rules) (λ c. search rules) (λ c κs. search rules) returns)
+pub after_spec : {M : Type 1} → statement M
+after_spec = tie.close (tie.spec (λ c κs. search rules) (λ c. search rules) (λ c κs. search rules) returns)

@@ -4,19 +4,19 @@ use borrow.Author.Rules.{rules}
 use Rattle.transitions.proofs.at.Statement.{statement}
 use Rattle.transitions.proofs.at.Tie as tie
 
-mul-result : tie.Need-overflow-mul-result
-mul-result c = search rules
+offset_bounds-w-i : tie.Need-offset_bounds-w-i
+offset_bounds-w-i c = search rules
 
-shared-slice-read-result : tie.Need-shared-slice-read-result
-shared-slice-read-result c = search rules
+bounds-w-i : tie.Need-bounds-w-i
+bounds-w-i c = search rules
 
-returns : tie.Need-returns
-returns c = search rules
+returns-then-i-w : tie.Need-returns-then-i-w
+returns-then-i-w c = search rules
 
-returns_2 : tie.Need-returns-2
-returns_2 c =
+returns-else-i-w : tie.Need-returns-else-i-w
+returns-else-i-w c =
     let args = c.before.args in
-    sym (get_or-eq_default args.w.now 0 c.if1.false)
+    sym (get_or-eq_default args.w.now 0 c.if-i-w.false)
 
-pub at-spec : {M : Type 1} → statement M
-at-spec = tie.close (tie.spec mul-result shared-slice-read-result returns returns_2)
+pub at_spec : {M : Type 1} → statement M
+at_spec = tie.close (tie.spec offset_bounds-w-i bounds-w-i returns-then-i-w returns-else-i-w)

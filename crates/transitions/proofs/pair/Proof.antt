@@ -11,8 +11,8 @@ at-requires c κs = search rules
 wide64-requires : tie.Need-wide64-requires
 wide64-requires c κs = search rules
 
-add_at : tie.Need-overflow-add-at
-add_at c = search rules
+overflow_add-i : tie.Need-overflow_add-i
+overflow_add-i c = search rules
 
 at-requires-2 : tie.Need-at-requires-2
 at-requires-2 c κs = search rules
@@ -20,14 +20,14 @@ at-requires-2 c κs = search rules
 wide64-requires-2 : tie.Need-wide64-requires-2
 wide64-requires-2 c κs = search rules
 
-mul-result : tie.Need-overflow-mul-result
-mul-result c = search rules
+overflow_mul-result : tie.Need-overflow_mul-result
+overflow_mul-result c = search rules
 
-add_result : tie.Need-overflow-add-result
-add_result c = search rules
+overflow_add-result : tie.Need-overflow_add-result
+overflow_add-result c = search rules
 
 returns : tie.Need-returns
-returns c = paired_of _ c.before.before.before.before.before.args.i _ _ (c.before.before.wide64.ensures ∙ c.before.before.before.at.ensures) (c.wide642.ensures ∙ c.before.at2.ensures) (omega arith)
+returns c = paired_of _ c.before.before.before.before.before.args.i _ _ (c.before.before.wide64.ensures ∙ c.before.before.before.at.ensures) (c.wide64-2.ensures ∙ c.before.at-2.ensures) (omega arith)
 
 pub pair_spec : {M : Type 1} → statement M
 pair_spec =
@@ -35,9 +35,9 @@ pair_spec =
     (tie.spec
     at-requires
     wide64-requires
-    add_at
+    overflow_add-i
     at-requires-2
     wide64-requires-2
-    mul-result
-    add_result
+    overflow_mul-result
+    overflow_add-result
     returns)

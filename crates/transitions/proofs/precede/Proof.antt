@@ -10,10 +10,10 @@ returns : tie.Need-returns
 returns c =
     let args = c.before.before.before.before.args in
     let pre = c.before.before.before.before.requires in
-    preceded_of _ _ _ _ _ _ pre.0 pre.1 pre.2 c.before.before.wide32.ensures c.before.wide322.ensures (one_shl 32 (args.p % 32) (omega arith))
+    preceded_of _ _ _ _ _ _ pre.0 pre.1 pre.2 c.before.before.wide32.ensures c.before.wide32-2.ensures (one_shl 32 (args.p % 32) (omega arith))
 
-pub precede-spec : {M : Type 1} → statement M
-precede-spec =
+pub precede_spec : {M : Type 1} → statement M
+precede_spec =
     tie.close
     (tie.spec
     (λ c κs. search rules)

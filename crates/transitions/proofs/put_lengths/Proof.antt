@@ -6,33 +6,33 @@ use borrow.Author.Rules.{rules}
 use Rattle.transitions.proofs.put_lengths.Statement.{statement}
 use Rattle.transitions.proofs.put_lengths.Tie as tie
 
-abbrev invariant_loop : tie.invariant-loop
-invariant_loop w₀ e j₀ w j = (j ≤ 60) × Measured w₀ e j w
+abbrev invariant-loop-j : tie.invariant-loop-j
+invariant-loop-j w₀ e j₀ w j = (j ≤ 60) × Measured w₀ e j w
 
-abbrev decreases_loop : tie.decreases-loop
-decreases_loop w₀ e j₀ w j = 60 - j
+abbrev decreases-loop-j : tie.decreases-loop-j
+decreases-loop-j w₀ e j₀ w j = 60 - j
 
-loop_holds : tie.Need-loop-init invariant_loop decreases_loop
-loop_holds c = (omega arith, measured_none _ _)
+loop-j-init : tie.Need-loop-j-init invariant-loop-j decreases-loop-j
+loop-j-init c = (omega arith, measured_none _ _)
 
-loop_again : tie.Need-loop-preserved invariant_loop decreases_loop
-loop_again c =
-    let turn = c.before.before.before in
-    (omega arith, measured_more _ _ _ _ _ turn.loop.invariant.1 (omega (arith, turn.before.before.requires)) c.wider.ensures)
+loop-j-preserved : tie.Need-loop-j-preserved invariant-loop-j decreases-loop-j
+loop-j-preserved c =
+    let turn = c.before.before.before.before in
+    (omega arith, measured_more _ _ _ _ _ turn.loop-j.invariant.1 (omega (arith, turn.before.before.requires)) c.wider.ensures)
 
-same_length : tie.Need-same-length invariant_loop decreases_loop
-same_length c = c.before.loop.invariant.1.long
+shape_of-w : tie.Need-shape_of-w invariant-loop-j decreases-loop-j
+shape_of-w c = c.before.loop-j.invariant.1.long
 
-returns : tie.Need-returns invariant_loop decreases_loop
-returns c = let loop = c.before.loop in measured_end _ _ _ _ loop.invariant.0 c.loop-test.false loop.invariant.1
+returns : tie.Need-returns invariant-loop-j decreases-loop-j
+returns c = let loop = c.before.loop-j in measured_end _ _ _ _ loop.invariant.0 c.loop-j-test.false loop.invariant.1
 
-pub put-lengths-spec : {M : Type 1} → statement M
-put-lengths-spec =
+pub put_lengths_spec : {M : Type 1} → statement M
+put_lengths_spec =
     tie.close
     (tie.spec
-    invariant_loop
-    decreases_loop
-    loop_holds
+    invariant-loop-j
+    decreases-loop-j
+    loop-j-init
     (λ c. search rules)
     (λ c. search rules)
     (λ c κs. search rules)
@@ -41,6 +41,6 @@ put-lengths-spec =
     (λ c. search rules)
     (λ c. search rules)
     (λ c. search rules)
-    loop_again
-    same_length
+    loop-j-preserved
+    shape_of-w
     returns)

@@ -5,20 +5,20 @@ use borrow.Author.Rules.{rules}
 use Rattle.unlisted_steps.proofs.goto.Statement.{statement}
 use Rattle.unlisted_steps.proofs.goto.Tie as tie
 
-left-requires : tie.Need-left-requires
-left-requires c κs = let b = c.before.before.requires in left_within b.0.checked _ b.2
+left-left-requires : tie.Need-left-left-requires
+left-left-requires c κs = let b = c.before.before.requires in left_within b.0.checked _ b.2
 
-mul-cell-at : tie.Need-overflow-mul-cell-at
-mul-cell-at c =
+overflow_mul-under : tie.Need-overflow_mul-under
+overflow_mul-under c =
     let b = c.before.before.before.before in
-    omega (arith, goto_in b.requires.0 b.requires.1 b.requires.2 c.before.left.ensures, b.well-formed)
+    omega (arith, goto_in b.requires.0 b.requires.1 b.requires.2 c.before.left-left.ensures, b.well_formed)
 
-cell-at-requires : tie.Need-cell-at-requires
-cell-at-requires c κs = let b = c.before.before.before.before.requires in goto_in b.0 b.1 b.2 c.before.left.ensures
+cell_at-requires : tie.Need-cell_at-requires
+cell_at-requires c κs = let b = c.before.before.before.before.requires in goto_in b.0 b.1 b.2 c.before.left-left.ensures
 
 returns : tie.Need-returns
-returns c = let b = c.before.before.before.before.before.requires in goto_is b.0 b.1 b.2 c.before.before.left.ensures c.cell_at.ensures
+returns c = let b = c.before.before.before.before.before.requires in goto_is b.0 b.1 b.2 c.before.before.left-left.ensures c.cell_at.ensures
 
-pub goto-spec : {M : Type 1} → statement M
-goto-spec =
-    tie.close (tie.spec left-requires (λ c. search rules) mul-cell-at cell-at-requires (λ c. search rules) returns)
+pub goto_spec : {M : Type 1} → statement M
+goto_spec =
+    tie.close (tie.spec left-left-requires (λ c. search rules) overflow_mul-under cell_at-requires (λ c. search rules) returns)

@@ -7,48 +7,48 @@ use borrow.Author.Rules.{rules}
 use Rattle.unlisted_steps.proofs.reduce_of.Statement.{statement}
 use Rattle.unlisted_steps.proofs.reduce_of.Tie as tie
 
-returns : tie.Need-returns
-returns c = let p = c.before.before.before.before.before.requires in λ q qs h. pops_bottom h _ _ (sym p.3) c.if1.true
+returns-then-s-n : tie.Need-returns-then-s-n
+returns-then-s-n c = let p = c.before.before.before.before.before.requires in λ q qs h. pops_bottom h _ _ (sym p.3) c.if-s-n.true
 
-cast-under : tie.Need-overflow-cast-under
-cast-under c =
+overflow_cast-under : tie.Need-overflow_cast-under
+overflow_cast-under c =
     let b7 = c.before.before.before.before.before.before.before in
-    omega (arith, c.slice-known2.given (b7.args.s.depth - b7.args.n - 1))
+    omega (arith, c.slice_known-2-1.given (b7.args.s.depth - b7.args.n - 1))
 
-goto-requires : tie.Need-goto-requires
-goto-requires c κs =
+goto-q-requires : tie.Need-goto-q-requires
+goto-q-requires c κs =
     let b2 = c.before.before in
     let p = b2.before.before.before.before.before.requires in
-    (p.0, under_in p.1 b2.if1.false, p.2)
+    (p.0, under_in p.1 b2.if-s-n.false, p.2)
 
-returns_2 : tie.Need-returns-2
-returns_2 c =
+returns-then-q-eq0 : tie.Need-returns-then-q-eq0
+returns-then-q-eq0 c =
     let b4 = c.before.before.before.before in
     let p = b4.before.before.before.before.before.requires in
-    λ q qs h. no_goto h _ _ (sym p.3) b4.if1.false c.before.goto.ensures.0 c.if2.true
+    λ q qs h. no_goto h _ _ (sym p.3) b4.if-s-n.false c.before.goto-q.ensures.0 c.if-q-eq0.true
 
-returns_3 : tie.Need-returns-3
-returns_3 c =
+returns : tie.Need-returns
+returns c =
     let b4 = c.before.before.before.before in
     let b8 = b4.before.before.before.before in
     let p = b8.before.before.before.before.before.requires in
-    let g = b4.before.goto.ensures in
+    let g = b4.before.goto-q.ensures in
     λ q qs h.
-    goto_shifts h _ _ (sym p.3) b8.if1.false g.0 b4.if2.false
-    (c.before.before.shift.ensures _ _ _ (popped h b8.if1.false _) g.1)
+    goto_shifts h _ _ (sym p.3) b8.if-s-n.false g.0 b4.if-q-eq0.false
+    (c.before.before.shift.ensures _ _ _ (popped h b8.if-s-n.false _) g.1)
 
-pub reduce-of-spec : {M : Type 1} → statement M
-reduce-of-spec =
+pub reduce_of_spec : {M : Type 1} → statement M
+reduce_of_spec =
     tie.close
     (tie.spec
-    returns
+    returns-then-s-n
     (λ c. search rules)
     (λ c. search rules)
     (λ c. search rules)
     (λ c. search rules)
-    cast-under
-    goto-requires
-    returns_2
+    overflow_cast-under
+    goto-q-requires
+    returns-then-q-eq0
     (λ c κs. search rules)
     (λ c. search rules)
-    returns_3)
+    returns)

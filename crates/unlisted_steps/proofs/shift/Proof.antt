@@ -3,14 +3,14 @@ use borrow.Author.Rules.{rules}
 use Rattle.unlisted_steps.proofs.shift.Statement.{statement}
 use Rattle.unlisted_steps.proofs.shift.Tie as tie
 
-returns : tie.Need-returns
-returns c = λ t q qs h k. shift_goes h k c.before.before.requires.1 c.before.if1.true
+returns-then-at-second : tie.Need-returns-then-at-second
+returns-then-at-second c = λ t q qs h k. shift_goes h k c.before.before.requires.1 c.before.if-at-second.true
 
-returns_2 : tie.Need-returns-2
-returns_2 c = λ t q qs h k. shift_full h k c.if1.false
+returns-else-at-second : tie.Need-returns-else-at-second
+returns-else-at-second c = λ t q qs h k. shift_full h k c.if-at-second.false
 
-pub shift-spec : {M : Type 1} → statement M
-shift-spec =
+pub shift_spec : {M : Type 1} → statement M
+shift_spec =
     tie.close
     (tie.spec
     (λ c. search rules)
@@ -19,5 +19,5 @@ shift-spec =
     (λ c. search rules)
     (λ c. search rules)
     (λ c. search rules)
-    returns
-    returns_2)
+    returns-then-at-second
+    returns-else-at-second)

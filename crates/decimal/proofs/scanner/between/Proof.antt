@@ -4,42 +4,42 @@ use borrow.Author.Rules.{rules}
 use Rattle.decimal.proofs.scanner.between.Statement.{statement}
 use Rattle.decimal.proofs.scanner.between.Tie as tie
 
-enum_told : tie.Need-enum-told
-enum_told c = search rules
+enum_told-1 : tie.Need-enum_told-1
+enum_told-1 c = search rules
 
-enum_known_k : tie.Need-enum-known-k
-enum_known_k c = search rules
+enum_known-k : tie.Need-enum_known-k
+enum_known-k c = search rules
 
-cast_enter : tie.Need-overflow-cast-enter
-cast_enter c = search rules
+overflow_cast-d : tie.Need-overflow_cast-d
+overflow_cast-d c = search rules
 
-enter_requires : tie.Need-enter-requires
-enter_requires c κs = search rules
+enter-requires : tie.Need-enter-requires
+enter-requires c κs = search rules
 
-enum_told_2 : tie.Need-enum-told-2
-enum_told_2 c = search rules
+enum_told-in-Other : tie.Need-enum_told-in-Other
+enum_told-in-Other c = search rules
 
-returns : tie.Need-returns
+returns-in-Space : tie.Need-returns-in-Space
 unfolding fed_in
-returns c = rw c.enum_told.given.1
+returns-in-Space c = rw c.in-Space.is
 
-returns_2 : tie.Need-returns-2
+returns-in-Digit : tie.Need-returns-in-Digit
 unfolding fed_in
-returns_2 c = rw c.before.before.before.k.given.1 c.enter.ensures
+returns-in-Digit c = rw c.before.before.in-Digit.is c.enter.ensures
 
-returns_3 : tie.Need-returns-3
+returns-in-Other : tie.Need-returns-in-Other
 unfolding fed_in
-returns_3 c = rw c.enum-told2.given.1
+returns-in-Other c = rw c.in-Other.is
 
 pub between_spec : {M : Type 1} → statement M
 between_spec =
     tie.close
     (tie.spec
-    enum_told
-    enum_known_k
-    cast_enter
-    enter_requires
-    enum_told_2
-    returns
-    returns_2
-    returns_3)
+    enum_told-1
+    enum_known-k
+    overflow_cast-d
+    enter-requires
+    enum_told-in-Other
+    returns-in-Space
+    returns-in-Digit
+    returns-in-Other)

@@ -4,44 +4,44 @@ use borrow.Author.Rules.{rules}
 use Rattle.decimal.proofs.scanner.byte.Statement.{statement}
 use Rattle.decimal.proofs.scanner.byte.Tie as tie
 
-class_of_requires : tie.Need-class-of-requires
-class_of_requires c κs = search rules
+class_of-k-requires : tie.Need-class_of-k-requires
+class_of-k-requires c κs = search rules
 
-enum_known_s : tie.Need-enum-known-s
-enum_known_s c = search rules
+enum_known-s : tie.Need-enum_known-s
+enum_known-s c = search rules
 
-between_requires : tie.Need-between-requires
-between_requires c κs = search rules
+between-requires : tie.Need-between-requires
+between-requires c κs = search rules
 
-enum_known_s_2 : tie.Need-enum-known-s-2
-enum_known_s_2 c = search rules
+enum_known-s-in-Inside-1 : tie.Need-enum_known-s-in-Inside-1
+enum_known-s-in-Inside-1 c = search rules
 
-inside_requires : tie.Need-inside-requires
-inside_requires c κs = search rules
+inside-requires : tie.Need-inside-requires
+inside-requires c κs = search rules
 
-enum_told : tie.Need-enum-told
-enum_told c = search rules
+enum_told-1 : tie.Need-enum_told-1
+enum_told-1 c = search rules
 
-returns : tie.Need-returns
-returns c = rw (c.before.before.before.s.given.1, ← c.before.before.before.before.before.class_of.ensures) c.between.ensures
+returns-in-Between : tie.Need-returns-in-Between
+returns-in-Between c = rw (c.before.before.in-Between.is, ← c.before.before.before.class_of-k.ensures) c.between.ensures
 
-returns_2 : tie.Need-returns-2
-returns_2 c = rw (c.before.before.before.s2.given.1, ← c.before.before.before.before.before.class_of.ensures) c.inside.ensures
+returns-in-Inside : tie.Need-returns-in-Inside
+returns-in-Inside c = rw (c.before.before.in-Inside.is, ← c.before.before.before.class_of-k.ensures) c.inside.ensures
 
-returns_3 : tie.Need-returns-3
+returns-in-Bad : tie.Need-returns-in-Bad
 unfolding fed_in
-returns_3 c = rw c.enum_told.given.1
+returns-in-Bad c = rw c.in-Bad.is
 
 pub byte_spec : {M : Type 1} → statement M
 byte_spec =
     tie.close
     (tie.spec
-    class_of_requires
-    enum_known_s
-    between_requires
-    enum_known_s_2
-    inside_requires
-    enum_told
-    returns
-    returns_2
-    returns_3)
+    class_of-k-requires
+    enum_known-s
+    between-requires
+    enum_known-s-in-Inside-1
+    inside-requires
+    enum_told-1
+    returns-in-Between
+    returns-in-Inside
+    returns-in-Bad)

@@ -4,25 +4,25 @@ use Rattle.decimal.specs.Scanning.{class_of}
 use Rattle.decimal.proofs.scanner.class_of.Statement.{statement}
 use Rattle.decimal.proofs.scanner.class_of.Tie as tie
 
-returns : tie.Need-returns
+returns-then-b-eq32 : tie.Need-returns-then-b-eq32
 unfolding class_of
-returns c = rw (eq-eqb _ _ c.if1.true)
+returns-then-b-eq32 c = rw (eq-eqb _ _ c.if-b-eq32.true)
 
-returns_2 : tie.Need-returns-2
+returns-then-b-eq10 : tie.Need-returns-then-b-eq10
 unfolding class_of
-returns_2 c = rw (ne_eqb _ _ c.before.if1.false, eq-eqb _ _ c.if2.true)
+returns-then-b-eq10 c = rw (ne_eqb _ _ c.before.if-b-eq32.false, eq-eqb _ _ c.if-b-eq10.true)
 
-returns_3 : tie.Need-returns-3
+returns-then-b-le57 : tie.Need-returns-then-b-le57
 unfolding class_of
-returns_3 c = rw (ne_eqb _ _ c.before.before.before.if1.false, ne_eqb _ _ c.before.before.if2.false, le-leb _ _ c.before.if3.true, le-leb _ _ c.if4.true)
+returns-then-b-le57 c = rw (ne_eqb _ _ c.before.before.before.if-b-eq32.false, ne_eqb _ _ c.before.before.if-b-eq10.false, le-leb _ _ c.before.if-b-ge48.true, le-leb _ _ c.if-b-le57.true)
 
-returns_4 : tie.Need-returns-4
+returns-else-b-le57 : tie.Need-returns-else-b-le57
 unfolding class_of
-returns_4 c = rw (ne_eqb _ _ c.before.before.before.if1.false, ne_eqb _ _ c.before.before.if2.false, le-leb _ _ c.before.if3.true, lt-leb _ _ c.if4.false)
+returns-else-b-le57 c = rw (ne_eqb _ _ c.before.before.before.if-b-eq32.false, ne_eqb _ _ c.before.before.if-b-eq10.false, le-leb _ _ c.before.if-b-ge48.true, lt-leb _ _ c.if-b-le57.false)
 
-returns_5 : tie.Need-returns-5
+returns-else-b-ge48 : tie.Need-returns-else-b-ge48
 unfolding class_of
-returns_5 c = rw (ne_eqb _ _ c.before.before.if1.false, ne_eqb _ _ c.before.if2.false, lt-leb _ _ c.if3.false)
+returns-else-b-ge48 c = rw (ne_eqb _ _ c.before.before.if-b-eq32.false, ne_eqb _ _ c.before.if-b-eq10.false, lt-leb _ _ c.if-b-ge48.false)
 
 pub class_of_spec : {M : Type 1} → statement M
-class_of_spec = tie.close (tie.spec returns returns_2 returns_3 returns_4 returns_5)
+class_of_spec = tie.close (tie.spec returns-then-b-eq32 returns-then-b-eq10 returns-then-b-le57 returns-else-b-le57 returns-else-b-ge48)

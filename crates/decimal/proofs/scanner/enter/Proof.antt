@@ -5,26 +5,26 @@ use borrow.Author.Rules.{rules}
 use Rattle.decimal.proofs.scanner.enter.Statement.{statement}
 use Rattle.decimal.proofs.scanner.enter.Tie as tie
 
-cast_card : tie.Need-overflow-cast-card
-cast_card c = search rules
+overflow_cast-card : tie.Need-overflow_cast-card
+overflow_cast-card c = search rules
 
-mul_card : tie.Need-overflow-mul-card
-mul_card c = search rules
+offset_bounds-card-n : tie.Need-offset_bounds-card-n
+offset_bounds-card-n c = search rules
 
-element_write_card : tie.Need-element-write-card
-element_write_card c = search rules
+bounds-card-n : tie.Need-bounds-card-n
+bounds-card-n c = search rules
 
-returns : tie.Need-returns
+returns-then-v-le65535 : tie.Need-returns-then-v-le65535
 unfolding entered
-returns c = rw (lt-ltb _ _ c.before.if1.true, le-leb _ _ c.if2.true)
+returns-then-v-le65535 c = rw (lt-ltb _ _ c.before.before.if-n-lt772.true, le-leb _ _ c.before.if-v-le65535.true)
 
-returns_2 : tie.Need-returns-2
+returns-else-v-le65535 : tie.Need-returns-else-v-le65535
 unfolding entered
-returns_2 c = rw (lt-ltb _ _ c.before.if1.true, lt-leb _ _ c.if2.false)
+returns-else-v-le65535 c = rw (lt-ltb _ _ c.before.if-n-lt772.true, lt-leb _ _ c.if-v-le65535.false)
 
-returns_3 : tie.Need-returns-3
+returns-else-n-lt772 : tie.Need-returns-else-n-lt772
 unfolding entered
-returns_3 c = rw (le-ltb _ _ c.if1.false)
+returns-else-n-lt772 c = rw (le-ltb _ _ c.if-n-lt772.false)
 
 pub enter_spec : {M : Type 1} → statement M
-enter_spec = tie.close (tie.spec cast_card mul_card element_write_card returns returns_2 returns_3)
+enter_spec = tie.close (tie.spec overflow_cast-card offset_bounds-card-n bounds-card-n returns-then-v-le65535 returns-else-v-le65535 returns-else-n-lt772)

@@ -9,43 +9,43 @@ use Rattle.decimal.proofs.Chunks.{fed_next, fed_done}
 use Rattle.decimal.proofs.scanner.feed.Statement.{statement}
 use Rattle.decimal.proofs.scanner.feed.Tie as tie
 
-abbrev invariant_loop : tie.invariant_loop
-invariant_loop card₀ chunk s₀ i₀ card s i = (fed (fed_of card s) (drop i chunk) ≡ fed (fed_of card₀ s₀) chunk) × (i ≤ length chunk)
+abbrev invariant-loop-i : tie.invariant-loop-i
+invariant-loop-i card₀ chunk s₀ i₀ card s i = (fed (fed_of card s) (drop i chunk) ≡ fed (fed_of card₀ s₀) chunk) × (i ≤ length chunk)
 
-abbrev decreases_loop : tie.decreases_loop
-decreases_loop card₀ chunk s₀ i₀ card s i = length chunk - i
+abbrev decreases-loop-i : tie.decreases-loop-i
+decreases-loop-i card₀ chunk s₀ i₀ card s i = length chunk - i
 
-loop_holds : tie.Need-loop-init invariant_loop decreases_loop
-loop_holds c = (refl, zero-le)
+loop-i-init : tie.Need-loop-i-init invariant-loop-i decreases-loop-i
+loop-i-init c = (refl, zero-le)
 
-shared_slice_read_byte : tie.Need-shared-slice-read-byte invariant_loop decreases_loop
-shared_slice_read_byte c = search rules
+bounds-chunk-i : tie.Need-bounds-chunk-i invariant-loop-i decreases-loop-i
+bounds-chunk-i c = search rules
 
-byte_requires : tie.Need-byte-requires invariant_loop decreases_loop
-byte_requires c κs = search rules
+byte-s-requires : tie.Need-byte-s-requires invariant-loop-i decreases-loop-i
+byte-s-requires c κs = search rules
 
-add_i : tie.Need-overflow-add-i invariant_loop decreases_loop
-add_i c = search rules
+overflow_add-i : tie.Need-overflow_add-i invariant-loop-i decreases-loop-i
+overflow_add-i c = search rules
 
-loop_less : tie.Need-loop-smaller invariant_loop decreases_loop
-loop_less c = search rules
+loop-i-smaller : tie.Need-loop-i-smaller invariant-loop-i decreases-loop-i
+loop-i-smaller c = search rules
 
-loop_again : tie.Need-loop-preserved invariant_loop decreases_loop
-loop_again c = (fed_next _ _ _ _ c.byte.ensures c.before.before.before.loop-test.true ∙ c.before.before.before.before.loop.invariant.0, omega arith)
+loop-i-preserved : tie.Need-loop-i-preserved invariant-loop-i decreases-loop-i
+loop-i-preserved c = (fed_next _ _ _ _ c.byte-s.ensures c.before.before.before.loop-i-test.true ∙ c.before.before.before.before.loop-i.invariant.0, omega arith)
 
-returns : tie.Need-returns invariant_loop decreases_loop
-returns c = sym (fed_done _ _ _ c.loop-test.false) ∙ c.before.loop.invariant.0
+returns : tie.Need-returns invariant-loop-i decreases-loop-i
+returns c = sym (fed_done _ _ _ c.loop-i-test.false) ∙ c.before.loop-i.invariant.0
 
 pub feed_spec : {M : Type 1} → statement M
 feed_spec =
     tie.close
     (tie.spec
-    invariant_loop
-    decreases_loop
-    loop_holds
-    shared_slice_read_byte
-    byte_requires
-    add_i
-    loop_less
-    loop_again
+    invariant-loop-i
+    decreases-loop-i
+    loop-i-init
+    bounds-chunk-i
+    byte-s-requires
+    overflow_add-i
+    loop-i-smaller
+    loop-i-preserved
     returns)

@@ -6,48 +6,48 @@ use borrow.Author.Rules.{rules}
 use Rattle.decimal.proofs.scanner.finish.Statement.{statement}
 use Rattle.decimal.proofs.scanner.finish.Tie as tie
 
-enum_known_s : tie.Need-enum-known-s
-enum_known_s c = search rules
+enum_known-s : tie.Need-enum_known-s
+enum_known-s c = search rules
 
-enum_known_s_2 : tie.Need-enum-known-s-2
-enum_known_s_2 c = search rules
+enum_known-s-in-Inside-1 : tie.Need-enum_known-s-in-Inside-1
+enum_known-s-in-Inside-1 c = search rules
 
-add_t9 : tie.Need-overflow-add-t9
-add_t9 c = search rules
+overflow_add-result : tie.Need-overflow_add-result
+overflow_add-result c = search rules
 
-enum_told : tie.Need-enum-told
-enum_told c = search rules
+enum_told-1 : tie.Need-enum_told-1
+enum_told-1 c = search rules
 
-returns : tie.Need-returns
+returns-then-n-le772 : tie.Need-returns-then-n-le772
 unfolding found_of
-returns c = (rw (c.before.before.s.given.1, le-leb _ _ c.if1.true), c.if1.true)
+returns-then-n-le772 c = (rw (c.before.in-Between.is, le-leb _ _ c.if-n-le772.true), c.if-n-le772.true)
 
-returns_2 : tie.Need-returns-2
+returns-else-n-le772 : tie.Need-returns-else-n-le772
 unfolding found_of
-returns_2 c = (rw (c.before.before.s.given.1, lt-leb _ _ c.if1.false), tt)
+returns-else-n-le772 c = (rw (c.before.in-Between.is, lt-leb _ _ c.if-n-le772.false), tt)
 
-returns_3 : tie.Need-returns-3
+returns-then-n-lt772 : tie.Need-returns-then-n-lt772
 unfolding found_of
-returns_3 c = (rw (c.before.before.s2.given.1, lt-ltb _ _ c.if2.true), omega arith)
+returns-then-n-lt772 c = (rw (c.before.in-Inside.is, lt-ltb _ _ c.if-n-lt772.true), omega arith)
 
-returns_4 : tie.Need-returns-4
+returns-else-n-lt772 : tie.Need-returns-else-n-lt772
 unfolding found_of
-returns_4 c = (rw (c.before.before.s2.given.1, le-ltb _ _ c.if2.false), tt)
+returns-else-n-lt772 c = (rw (c.before.in-Inside.is, le-ltb _ _ c.if-n-lt772.false), tt)
 
-returns_5 : tie.Need-returns-5
+returns-in-Bad : tie.Need-returns-in-Bad
 unfolding found_of
-returns_5 c = (rw c.enum_told.given.1, tt)
+returns-in-Bad c = (rw c.in-Bad.is, tt)
 
 pub finish_spec : {M : Type 1} → statement M
 finish_spec =
     tie.close
     (tie.spec
-    enum_known_s
-    enum_known_s_2
-    add_t9
-    enum_told
-    returns
-    returns_2
-    returns_3
-    returns_4
-    returns_5)
+    enum_known-s
+    enum_known-s-in-Inside-1
+    overflow_add-result
+    enum_told-1
+    returns-then-n-le772
+    returns-else-n-le772
+    returns-then-n-lt772
+    returns-else-n-lt772
+    returns-in-Bad)

@@ -6,70 +6,70 @@ use borrow.Author.Rules.{rules}
 use Rattle.decimal.proofs.scanner.inside.Statement.{statement}
 use Rattle.decimal.proofs.scanner.inside.Tie as tie
 
-returns : tie.Need-returns
-returns c = outside _ _ _ c.if1.true
+returns-then-n-ge772 : tie.Need-returns-then-n-ge772
+returns-then-n-ge772 c = outside _ _ _ c.if-n-ge772.true
 
-enum_told : tie.Need-enum-told
-enum_told c = search rules
+enum_told-1 : tie.Need-enum_told-1
+enum_told-1 c = search rules
 
-add_t8 : tie.Need-overflow-add-t8
-add_t8 c = search rules
+overflow_add-result : tie.Need-overflow_add-result
+overflow_add-result c = search rules
 
-enum_known_k : tie.Need-enum-known-k
-enum_known_k c = search rules
+enum_known-k : tie.Need-enum_known-k
+enum_known-k c = search rules
 
-mul_wide : tie.Need-overflow-mul-wide
-mul_wide c = search rules
+offset_bounds-card-n : tie.Need-offset_bounds-card-n
+offset_bounds-card-n c = search rules
 
-element_copy_out_wide : tie.Need-element-copy-out-wide
-element_copy_out_wide c = search rules
+bounds-card-n : tie.Need-bounds-card-n
+bounds-card-n c = search rules
 
-wide_requires : tie.Need-wide-requires
-wide_requires c κs = search rules
+wide-old-requires : tie.Need-wide-old-requires
+wide-old-requires c κs = search rules
 
-mul_enter : tie.Need-overflow-mul-enter
-mul_enter c = search rules
+overflow_mul-old : tie.Need-overflow_mul-old
+overflow_mul-old c = search rules
 
-cast_enter : tie.Need-overflow-cast-enter
-cast_enter c = search rules
+overflow_cast-d : tie.Need-overflow_cast-d
+overflow_cast-d c = search rules
 
-add_enter : tie.Need-overflow-add-enter
-add_enter c = search rules
+overflow_add-old : tie.Need-overflow_add-old
+overflow_add-old c = search rules
 
-enter_requires : tie.Need-enter-requires
-enter_requires c κs = search rules
+enter-requires : tie.Need-enter-requires
+enter-requires c κs = search rules
 
-enum_told_2 : tie.Need-enum-told-2
-enum_told_2 c = search rules
+enum_told-in-Other : tie.Need-enum_told-in-Other
+enum_told-in-Other c = search rules
 
-returns_2 : tie.Need-returns-2
+returns-in-Space : tie.Need-returns-in-Space
 unfolding fed_in
-returns_2 c = rw (c.enum_told.given.1, lt-ltb _ _ c.before.before.if1.false)
+returns-in-Space c = rw (c.in-Space.is, lt-ltb _ _ c.before.if-n-ge772.false)
 
-returns_3 : tie.Need-returns-3
+returns-in-Digit : tie.Need-returns-in-Digit
 unfolding fed_in
-returns_3 c = rw (c.before.before.before.before.before.k.given.1, ← c.before.before.wide.ensures.0) c.enter.ensures
+returns-in-Digit c = rw (c.before.before.before.before.before.in-Digit.is, ← c.before.before.wide-old.ensures.0) c.enter.ensures
 
-returns_4 : tie.Need-returns-4
+returns-in-Other : tie.Need-returns-in-Other
 unfolding fed_in
-returns_4 c = rw c.enum-told2.given.1
+returns-in-Other c = rw c.in-Other.is
 
 pub inside_spec : {M : Type 1} → statement M
 inside_spec =
     tie.close
     (tie.spec
-    returns
-    enum_told
-    add_t8
-    enum_known_k
-    mul_wide
-    element_copy_out_wide
-    wide_requires
-    mul_enter
-    cast_enter
-    add_enter
-    enter_requires
-    enum_told_2
-    returns_2
-    returns_3
-    returns_4)
+    returns-then-n-ge772
+    enum_told-1
+    overflow_add-result
+    enum_known-k
+    offset_bounds-card-n
+    bounds-card-n
+    wide-old-requires
+    overflow_mul-old
+    overflow_cast-d
+    overflow_add-old
+    enter-requires
+    enum_told-in-Other
+    returns-in-Space
+    returns-in-Digit
+    returns-in-Other)

@@ -5,22 +5,22 @@ use borrow.Author.Rules.{rules}
 use Rattle.decimal.proofs.writer.put.Statement.{statement}
 use Rattle.decimal.proofs.writer.put.Tie as tie
 
-slice_write_out : tie.Need-slice-write-out
-slice_write_out c = search rules
+bounds-out-used : tie.Need-bounds-out-used
+bounds-out-used c = search rules
 
-add_result : tie.Need-overflow-add-result
-add_result c = search rules
+overflow_add-result : tie.Need-overflow_add-result
+overflow_add-result c = search rules
 
-same_length : tie.Need-same-length
-same_length c = search rules
+shape_of-out : tie.Need-shape_of-out
+shape_of-out c = search rules
 
-returns : tie.Need-returns
+returns-then-used-out : tie.Need-returns-then-used-out
 unfolding wrote_byte
-returns c = rw (lt-ltb _ _ c.if1.true)
+returns-then-used-out c = rw (lt-ltb _ _ c.if-used-out.true)
 
-returns_2 : tie.Need-returns-2
+returns-else-used-out : tie.Need-returns-else-used-out
 unfolding wrote_byte
-returns_2 c = rw (le-ltb _ _ c.if1.false)
+returns-else-used-out c = rw (le-ltb _ _ c.if-used-out.false)
 
 pub put_spec : {M : Type 1} → statement M
-put_spec = tie.close (tie.spec slice_write_out add_result same_length returns returns_2)
+put_spec = tie.close (tie.spec bounds-out-used overflow_add-result shape_of-out returns-then-used-out returns-else-used-out)

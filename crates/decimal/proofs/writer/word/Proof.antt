@@ -9,47 +9,47 @@ use Rattle.decimal.proofs.Written.{wrote_next, wrote_done}
 use Rattle.decimal.proofs.writer.word.Statement.{statement}
 use Rattle.decimal.proofs.writer.word.Tie as tie
 
-abbrev invariant_loop : tie.invariant_loop
-invariant_loop out₀ used text n₀ i₀ out n i = (wrote (page_of out n) (drop i text) ≡ wrote (page_of out₀ n₀) text) × (length out ≡ length out₀) × (i ≤ length text)
+abbrev invariant-loop-i : tie.invariant-loop-i
+invariant-loop-i out₀ used text n₀ i₀ out n i = (wrote (page_of out n) (drop i text) ≡ wrote (page_of out₀ n₀) text) × (length out ≡ length out₀) × (i ≤ length text)
 
-abbrev decreases_loop : tie.decreases_loop
-decreases_loop out₀ used text n₀ i₀ out n i = length text - i
+abbrev decreases-loop-i : tie.decreases-loop-i
+decreases-loop-i out₀ used text n₀ i₀ out n i = length text - i
 
-loop_holds : tie.Need-loop-init invariant_loop decreases_loop
-loop_holds c = (refl, refl, zero-le)
+loop-i-init : tie.Need-loop-i-init invariant-loop-i decreases-loop-i
+loop-i-init c = (refl, refl, zero-le)
 
-shared_slice_read_put : tie.Need-shared-slice-read-put invariant_loop decreases_loop
-shared_slice_read_put c = search rules
+bounds-text-i : tie.Need-bounds-text-i invariant-loop-i decreases-loop-i
+bounds-text-i c = search rules
 
-put_requires : tie.Need-put-requires invariant_loop decreases_loop
-put_requires c κs = search rules
+put-n-requires : tie.Need-put-n-requires invariant-loop-i decreases-loop-i
+put-n-requires c κs = search rules
 
-add_i : tie.Need-overflow-add-i invariant_loop decreases_loop
-add_i c = search rules
+overflow_add-i : tie.Need-overflow_add-i invariant-loop-i decreases-loop-i
+overflow_add-i c = search rules
 
-loop_less : tie.Need-loop-smaller invariant_loop decreases_loop
-loop_less c = search rules
+loop-i-smaller : tie.Need-loop-i-smaller invariant-loop-i decreases-loop-i
+loop-i-smaller c = search rules
 
-loop_again : tie.Need-loop-preserved invariant_loop decreases_loop
-loop_again c = (wrote_next _ _ _ _ c.before.before.put.ensures c.before.before.before.before.before.loop-test.true ∙ c.before.before.before.before.before.before.loop.invariant.0, c.before.before.put.auto.0 ∙ c.before.before.before.before.before.before.loop.invariant.1, omega arith)
+loop-i-preserved : tie.Need-loop-i-preserved invariant-loop-i decreases-loop-i
+loop-i-preserved c = (wrote_next _ _ _ _ c.before.before.put-n.ensures c.before.before.before.before.before.loop-i-test.true ∙ c.before.before.before.before.before.before.loop-i.invariant.0, c.before.before.put-n.auto.out ∙ c.before.before.before.before.before.before.loop-i.invariant.1, omega arith)
 
-same_length : tie.Need-same-length invariant_loop decreases_loop
-same_length c = c.before.loop.invariant.1
+shape_of-out : tie.Need-shape_of-out invariant-loop-i decreases-loop-i
+shape_of-out c = c.before.loop-i.invariant.1
 
-returns : tie.Need-returns invariant_loop decreases_loop
-returns c = sym (wrote_done _ _ _ c.loop-test.false) ∙ c.before.loop.invariant.0
+returns : tie.Need-returns invariant-loop-i decreases-loop-i
+returns c = sym (wrote_done _ _ _ c.loop-i-test.false) ∙ c.before.loop-i.invariant.0
 
 pub word_spec : {M : Type 1} → statement M
 word_spec =
     tie.close
     (tie.spec
-    invariant_loop
-    decreases_loop
-    loop_holds
-    shared_slice_read_put
-    put_requires
-    add_i
-    loop_less
-    loop_again
-    same_length
+    invariant-loop-i
+    decreases-loop-i
+    loop-i-init
+    bounds-text-i
+    put-n-requires
+    overflow_add-i
+    loop-i-smaller
+    loop-i-preserved
+    shape_of-out
     returns)
