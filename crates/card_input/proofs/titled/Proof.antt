@@ -8,8 +8,8 @@ use Rattle.card_input.proofs.titled.Tie as tie
 returns : tie.Need-returns
 returns c =
     let b2 = c.before.before in
-    let e = wrote_joined _ _ _ _ _ b2.before.before.before.before.word.ensures b2.word2.ensures ∙ wrote_front _ _ in
+    let e = wrote_joined _ _ _ _ _ b2.before.before.before.before.word-n.ensures b2.word.ensures ∙ wrote_front _ _ in
     (e, page_used _ _ _ _ e)
 
-pub titled-spec : {M : Type 1} → statement M
-titled-spec = tie.close (tie.spec (λ c κs. search rules) (λ c κs. search rules) (λ c. search rules) returns)
+pub titled_spec : {M : Type 1} → statement M
+titled_spec = tie.close (tie.spec (λ c κs. search rules) (λ c κs. search rules) (λ c. search rules) returns)

@@ -69,7 +69,7 @@ returns c =
     let z = a.z.now in
     let joined = bit_or (at z a.x) (at z a.y) in
     ap (set (set z a.x joined) (numbers_at + a.x))
-    (c.least.ensures ∙ ap₂ min (steps.num-set z a.x joined a.x p.1) (steps.num-set z a.x joined a.y p.1))
+    (c.least.ensures ∙ ap₂ min (steps.num_set z a.x joined a.x p.1) (steps.num_set z a.x joined a.y p.1))
 
 pub join_spec : {M : Type 1} → statement M
 join_spec =

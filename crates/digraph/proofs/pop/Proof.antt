@@ -41,7 +41,7 @@ settle-requires c κs =
     let l = c.before.before.before.before.loop-d in
     let long : words_size ≤ length l.z = omega (arith, l.invariant.2) in
     let v = c.before.wide-v in
-    let node = steps.pop-node a.k l.d a.depth a.s a.z.now l.z p.4 l.invariant.3 (omega arith) l.invariant.1 p.2 long v.result v.ensures in
+    let node = steps.pop_node a.k l.d a.depth a.s a.z.now l.z p.4 l.invariant.3 (omega arith) l.invariant.1 p.2 long v.result v.ensures in
     (long, omega arith)
 
 loop-d-smaller : tie.Need-loop-d-smaller invariant-loop-d decreases-loop-d
@@ -55,7 +55,7 @@ loop-d-preserved c =
     let long : words_size ≤ length l.z = omega (arith, l.invariant.2) in
     let v = c.before.before.before.before.wide-v in
     let s = c.before.before.settle in
-    let popped = steps.pop-more a.k l.d a.depth a.s a.z.now l.z p.4 l.invariant.3 (omega arith) l.invariant.1 p.2 long v.result v.ensures s.new.z s.ensures in
+    let popped = steps.pop_more a.k l.d a.depth a.s a.z.now l.z p.4 l.invariant.3 (omega arith) l.invariant.1 p.2 long v.result v.ensures s.new.z s.ensures in
     (omega arith, omega arith, s.auto.z ∙ l.invariant.2, popped)
 
 shape_of-z : tie.Need-shape_of-z invariant-loop-d decreases-loop-d

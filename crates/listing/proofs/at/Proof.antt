@@ -6,20 +6,20 @@ use borrow.Author.Rules.{rules}
 use Rattle.listing.proofs.at.Statement.{statement}
 use Rattle.listing.proofs.at.Tie as tie
 
-mul-result : tie.Need-overflow-mul-result
-mul-result c = search rules
+offset_bounds-s-i : tie.Need-offset_bounds-s-i
+offset_bounds-s-i c = search rules
 
-shared-slice-read-result : tie.Need-shared-slice-read-result
-shared-slice-read-result c = search rules
+bounds-s-i : tie.Need-bounds-s-i
+bounds-s-i c = search rules
 
-cast-result : tie.Need-overflow-cast-result
-cast-result c = omega (arith, c.shared-slice-known.given c.before.before.args.i)
+overflow_cast-result : tie.Need-overflow_cast-result
+overflow_cast-result c = omega (arith, c.shared_slice_known-1.given c.before.before.args.i)
 
-returns : tie.Need-returns
-returns c = (refl, omega (arith, c.shared-slice-known.given c.before.before.args.i))
+returns-then-i-s : tie.Need-returns-then-i-s
+returns-then-i-s c = (refl, omega (arith, c.shared_slice_known-1.given c.before.before.args.i))
 
-returns_2 : tie.Need-returns-2
-returns_2 c = (sym (get_or-eq_default c.before.args.s.now 0 c.if1.false), omega arith)
+returns-else-i-s : tie.Need-returns-else-i-s
+returns-else-i-s c = (sym (get_or-eq_default c.before.args.s.now 0 c.if-i-s.false), omega arith)
 
-pub at-spec : {M : Type 1} → statement M
-at-spec = tie.close (tie.spec mul-result shared-slice-read-result cast-result returns returns_2)
+pub at_spec : {M : Type 1} → statement M
+at_spec = tie.close (tie.spec offset_bounds-s-i bounds-s-i overflow_cast-result returns-then-i-s returns-else-i-s)

@@ -17,5 +17,5 @@ same_length c = search rules
 returns : tie.Need-returns
 returns c = let e = c.before.before.word.ensures ∙ wrote_front _ _ in (e, page_used _ _ _ _ e)
 
-pub not-a-card-spec : {M : Type 1} → statement M
-not-a-card-spec = tie.close (tie.spec slice-aggregate-word word-requires same_length returns)
+pub not_a_card_spec : {M : Type 1} → statement M
+not_a_card_spec = tie.close (tie.spec slice-aggregate-word word-requires same_length returns)

@@ -11,51 +11,51 @@ use Rattle.listing.proofs.Lines.{numbers_next, numbers_done}
 use Rattle.listing.proofs.numbers.Statement.{statement}
 use Rattle.listing.proofs.numbers.Tie as tie
 
-abbrev invariant_loop : tie.invariant-loop
-invariant_loop out₀ used s from end n₀ i₀ out n i = (wrote (page_of out n) (spaced (part s i (end - i))) ≡ wrote (page_of out₀ n₀) (spaced (part s i₀ (end - i₀)))) × (length out ≡ length out₀)
+abbrev invariant-loop-i : tie.invariant-loop-i
+invariant-loop-i out₀ used s from end n₀ i₀ out n i = (wrote (page_of out n) (spaced (part s i (end - i))) ≡ wrote (page_of out₀ n₀) (spaced (part s i₀ (end - i₀)))) × (length out ≡ length out₀)
 
-abbrev decreases_loop : tie.decreases-loop
-decreases_loop out₀ used s from end n₀ i₀ out n i = end - i
+abbrev decreases-loop-i : tie.decreases-loop-i
+decreases-loop-i out₀ used s from end n₀ i₀ out n i = end - i
 
-loop_holds : tie.Need-loop-init invariant_loop decreases_loop
-loop_holds c = (refl, refl)
+loop-i-init : tie.Need-loop-i-init invariant-loop-i decreases-loop-i
+loop-i-init c = (refl, refl)
 
-put_requires : tie.Need-put-requires invariant_loop decreases_loop
-put_requires c κs = search rules
+put-n-requires : tie.Need-put-n-requires invariant-loop-i decreases-loop-i
+put-n-requires c κs = search rules
 
-at-requires : tie.Need-at-requires invariant_loop decreases_loop
+at-requires : tie.Need-at-requires invariant-loop-i decreases-loop-i
 at-requires c κs = search rules
 
-number-requires : tie.Need-number-requires invariant_loop decreases_loop
-number-requires c κs = search rules
+number-n-requires : tie.Need-number-n-requires invariant-loop-i decreases-loop-i
+number-n-requires c κs = search rules
 
-add_i : tie.Need-overflow-add-i invariant_loop decreases_loop
-add_i c = omega arith
+overflow_add-i : tie.Need-overflow_add-i invariant-loop-i decreases-loop-i
+overflow_add-i c = omega arith
 
-loop_less : tie.Need-loop-smaller invariant_loop decreases_loop
-loop_less c = omega arith
+loop-i-smaller : tie.Need-loop-i-smaller invariant-loop-i decreases-loop-i
+loop-i-smaller c = omega arith
 
-loop_again : tie.Need-loop-preserved invariant_loop decreases_loop
-loop_again c = (numbers_next _ _ _ _ _ _ _ c.before.before.before.before.before.before.before.before.before.loop-test.true c.before.before.before.at.ensures.0 c.before.before.before.before.before.before.before.put.ensures c.before.before.number.ensures ∙ c.before.before.before.before.before.before.before.before.before.before.loop.invariant.0, c.before.before.number.auto.0 ∙ c.before.before.before.before.before.before.before.put.auto.0 ∙ c.before.before.before.before.before.before.before.before.before.before.loop.invariant.1)
+loop-i-preserved : tie.Need-loop-i-preserved invariant-loop-i decreases-loop-i
+loop-i-preserved c = (numbers_next _ _ _ _ _ _ _ c.before.before.before.before.before.before.before.before.before.loop-i-test.true c.before.before.before.at.ensures.0 c.before.before.before.before.before.before.before.put-n.ensures c.before.before.number-n.ensures ∙ c.before.before.before.before.before.before.before.before.before.before.loop-i.invariant.0, c.before.before.number-n.auto.out ∙ c.before.before.before.before.before.before.before.put-n.auto.out ∙ c.before.before.before.before.before.before.before.before.before.before.loop-i.invariant.1)
 
-same_length : tie.Need-same-length invariant_loop decreases_loop
-same_length c = c.before.loop.invariant.1
+shape_of-out : tie.Need-shape_of-out invariant-loop-i decreases-loop-i
+shape_of-out c = c.before.loop-i.invariant.1
 
-returns : tie.Need-returns invariant_loop decreases_loop
-returns c = sym (numbers_done _ _ _ _ c.loop-test.false) ∙ c.before.loop.invariant.0
+returns : tie.Need-returns invariant-loop-i decreases-loop-i
+returns c = sym (numbers_done _ _ _ _ c.loop-i-test.false) ∙ c.before.loop-i.invariant.0
 
-pub numbers-spec : {M : Type 1} → statement M
-numbers-spec =
+pub numbers_spec : {M : Type 1} → statement M
+numbers_spec =
     tie.close
     (tie.spec
-    invariant_loop
-    decreases_loop
-    loop_holds
-    put_requires
+    invariant-loop-i
+    decreases-loop-i
+    loop-i-init
+    put-n-requires
     at-requires
-    number-requires
-    add_i
-    loop_less
-    loop_again
-    same_length
+    number-n-requires
+    overflow_add-i
+    loop-i-smaller
+    loop-i-preserved
+    shape_of-out
     returns)

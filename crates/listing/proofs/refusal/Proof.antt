@@ -17,5 +17,5 @@ same_length c = search rules
 returns : tie.Need-returns
 returns c = let e = refusal_done _ _ _ c.before.before.line.ensures in (e, page_used _ _ _ _ e)
 
-pub refusal-spec : {M : Type 1} → statement M
-refusal-spec = tie.close (tie.spec slice-aggregate-line line-requires same_length returns)
+pub refusal_spec : {M : Type 1} → statement M
+refusal_spec = tie.close (tie.spec slice-aggregate-line line-requires same_length returns)

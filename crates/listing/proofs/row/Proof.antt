@@ -32,8 +32,8 @@ same_length c = c.before.before.put.auto.0 ∙ c.before.before.before.before.bef
 returns : tie.Need-returns
 returns c = row_done _ _ _ _ _ _ _ _ c.before.before.before.before.before.before.before.before.before.before.before.before.before.before.before.before.before.before.before.word.ensures c.before.before.before.before.before.before.before.before.before.before.before.before.before.before.before.number.ensures c.before.before.before.before.before.before.before.before.before.before.word2.ensures c.before.before.before.before.before.before.numbers.ensures c.before.before.put.ensures
 
-pub row-spec : {M : Type 1} → statement M
-row-spec =
+pub row_spec : {M : Type 1} → statement M
+row_spec =
     tie.close
     (tie.spec
     slice-aggregate-word

@@ -7,7 +7,7 @@ use Rattle.listing.proofs.row_width.Tie as tie
 
 returns : tie.Need-returns
 unfolding terminals nonterminals width
-returns c = (omega (arith, c.before.at.ensures.0, c.at2.ensures.0), omega (arith, c.before.at.ensures.1, c.at2.ensures.1))
+returns c = (omega (arith, c.before.at.ensures.0, c.at-2.ensures.0), omega (arith, c.before.at.ensures.1, c.at-2.ensures.1))
 
-pub row-width-spec : {M : Type 1} → statement M
-row-width-spec = tie.close (tie.spec (λ c κs. search rules) (λ c κs. search rules) (λ c. search rules) returns)
+pub row_width_spec : {M : Type 1} → statement M
+row_width_spec = tie.close (tie.spec (λ c κs. search rules) (λ c κs. search rules) (λ c. search rules) returns)

@@ -9,72 +9,72 @@ use Rattle.listing.proofs.Lines.{placed_start, Going, rows_start, rows_next, row
 use Rattle.listing.proofs.rows.Statement.{statement}
 use Rattle.listing.proofs.rows.Tie as tie
 
-abbrev invariant_loop : tie.invariant-loop
-invariant_loop out₀ used t count width from₀ n₀ q₀ out from n q = Going t count width (page_of out₀ used) out from n q (length out₀)
+abbrev invariant-loop-q : tie.invariant-loop-q
+invariant-loop-q out₀ used t count width from₀ n₀ q₀ out from n q = Going t count width (page_of out₀ used) out from n q (length out₀)
 
-abbrev decreases_loop : tie.decreases-loop
-decreases_loop out₀ used t count width from₀ n₀ q₀ out from n q = count - q
+abbrev decreases-loop-q : tie.decreases-loop-q
+decreases-loop-q out₀ used t count width from₀ n₀ q₀ out from n q = count - q
 
-at-requires : tie.Need-at-requires invariant_loop decreases_loop
+at-count-requires : tie.Need-at-count-requires invariant-loop-q decreases-loop-q
+at-count-requires c κs = search rules
+
+row_width-width-requires : tie.Need-row_width-width-requires invariant-loop-q decreases-loop-q
+row_width-width-requires c κs = search rules
+
+at-requires : tie.Need-at-requires invariant-loop-q decreases-loop-q
 at-requires c κs = search rules
 
-row-width-requires : tie.Need-row-width-requires invariant_loop decreases_loop
-row-width-requires c κs = search rules
+cells_at-from-requires : tie.Need-cells_at-from-requires invariant-loop-q decreases-loop-q
+cells_at-from-requires c κs = search rules
 
-at-requires-2 : tie.Need-at-requires-2 invariant_loop decreases_loop
-at-requires-2 c κs = search rules
-
-cells-at-requires : tie.Need-cells-at-requires invariant_loop decreases_loop
-cells-at-requires c κs = search rules
-
-loop_holds : tie.Need-loop-init invariant_loop decreases_loop
-loop_holds c =
+loop-q-init : tie.Need-loop-q-init invariant-loop-q decreases-loop-q
+loop-q-init c =
     let b1 = c.before in
-    rows_start _ _ _ _ _ _ (placed_start _ _ _ _ _ b1.before.before.at.ensures b1.before.row-width.ensures b1.at2.ensures c.cells_at.ensures)
+    rows_start _ _ _ _ _ _ (placed_start _ _ _ _ _ b1.before.before.at-count.ensures b1.before.row_width-width.ensures b1.at.ensures c.cells_at-from.ensures)
 
-add_row : tie.Need-overflow-add-row invariant_loop decreases_loop
-add_row c = omega arith
+overflow_add-from : tie.Need-overflow_add-from invariant-loop-q decreases-loop-q
+overflow_add-from c = omega arith
 
-row-requires : tie.Need-row-requires invariant_loop decreases_loop
-row-requires c κs = search rules
+row-n-requires : tie.Need-row-n-requires invariant-loop-q decreases-loop-q
+row-n-requires c κs = search rules
 
-add-from : tie.Need-overflow-add-from invariant_loop decreases_loop
-add-from c = omega arith
+overflow_add-from-in-loop-q : tie.Need-overflow_add-from-in-loop-q invariant-loop-q decreases-loop-q
+overflow_add-from-in-loop-q c = omega arith
 
-add-q : tie.Need-overflow-add-q invariant_loop decreases_loop
-add-q c = omega arith
+overflow_add-q : tie.Need-overflow_add-q invariant-loop-q decreases-loop-q
+overflow_add-q c = omega arith
 
-loop_less : tie.Need-loop-smaller invariant_loop decreases_loop
-loop_less c = omega arith
+loop-q-smaller : tie.Need-loop-q-smaller invariant-loop-q decreases-loop-q
+loop-q-smaller c = omega arith
 
-loop_again : tie.Need-loop-preserved invariant_loop decreases_loop
-loop_again c =
+loop-q-preserved : tie.Need-loop-q-preserved invariant-loop-q decreases-loop-q
+loop-q-preserved c =
     let b2 = c.before.before in
     let b4 = b2.before.before in
-    rows_next _ _ _ _ _ _ _ _ _ _ _ b4.before.loop.invariant b4.loop-test.true b2.row.auto.0 b2.row.ensures
+    rows_next _ _ _ _ _ _ _ _ _ _ _ b4.before.loop-q.invariant b4.loop-q-test.true b2.row-n.auto.out b2.row-n.ensures
 
-same_length : tie.Need-same-length invariant_loop decreases_loop
-same_length c = c.before.loop.invariant.kept
+shape_of-out : tie.Need-shape_of-out invariant-loop-q decreases-loop-q
+shape_of-out c = c.before.loop-q.invariant.kept
 
-returns : tie.Need-returns invariant_loop decreases_loop
-returns c = sym (rows_done _ _ _ _ c.loop-test.false) ∙ c.before.loop.invariant.same
+returns : tie.Need-returns invariant-loop-q decreases-loop-q
+returns c = sym (rows_done _ _ _ _ c.loop-q-test.false) ∙ c.before.loop-q.invariant.same
 
-pub rows-spec : {M : Type 1} → statement M
-rows-spec =
+pub rows_spec : {M : Type 1} → statement M
+rows_spec =
     tie.close
     (tie.spec
-    invariant_loop
-    decreases_loop
+    invariant-loop-q
+    decreases-loop-q
+    at-count-requires
+    row_width-width-requires
     at-requires
-    row-width-requires
-    at-requires-2
-    cells-at-requires
-    loop_holds
-    add_row
-    row-requires
-    add-from
-    add-q
-    loop_less
-    loop_again
-    same_length
+    cells_at-from-requires
+    loop-q-init
+    overflow_add-from
+    row-n-requires
+    overflow_add-from-in-loop-q
+    overflow_add-q
+    loop-q-smaller
+    loop-q-preserved
+    shape_of-out
     returns)

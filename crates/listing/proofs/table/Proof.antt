@@ -13,8 +13,8 @@ returns c =
     let e = table_done _ _ _ _ _ _ b10.before.left_at.ensures b10.line.ensures b6.arrays.ensures b2.rows.ensures in
     (e, page_used _ _ _ _ e)
 
-pub table-spec : {M : Type 1} → statement M
-table-spec =
+pub table_spec : {M : Type 1} → statement M
+table_spec =
     tie.close
     (tie.spec
     (λ c. search rules)

@@ -148,7 +148,7 @@ states-preserved c =
     let b26 = b21.before.before.before.before.before in
     let many = b19.wide-p.ensures ∙ b20.productions.ensures in
     let none : Clear b8.meeting-meet.result (terminals b26.args.c.now) =
-    ⊎_elim (λ w. clear_below _ _ _ (omega (arith, w.2.left, b21.terminals-terminals.ensures)) w.1.inv) (λ w. clear_zero _ _ w.0.left) b7.if-meet-ne0.branch in (
+    ⊎_elim (λ w. clear_below _ _ _ (omega (arith, w.loop-m-test.false, b21.terminals-terminals.ensures)) w.loop-m.invariant) (λ w. clear_zero _ _ w.if-meet-ne0.false) b7.if-meet-ne0.branch-raw in (
       omega arith,
       λ k o.
           rows_more _ _ _ _ _ k b26.requires.0 o _ _ (b16.states.invariant.1 k o) b15.states-test.true _ _ _ _
@@ -182,13 +182,13 @@ returns-then-q-n c =
     let a = b14.args in
     λ k o.
     let x : Crossed (Stands a.c.now a.t.now a.w.now a.z.now a.n k) a.n (terminals a.c.now) b4.states.q b3.states-test.m =
-    ⊎_elim (λ w. absurd (omega (arith, w.0.left, b2.if-q-n.true)))
+    ⊎_elim (λ w. absurd (omega (arith, w.states-test.false, b2.if-q-n.true)))
     (λ w.
-    subst (Crossed (Stands a.c.now a.t.now a.w.now a.z.now a.n k) a.n (terminals a.c.now) b4.states.q) (sym w.14)
-    (crossed _ _ _ _ _ k b14.requires.0 o _ _ (b4.states.invariant.1 k o) w.0.taken _ _ _ _
-    (known _ _ _ _ _ k b14.requires.0 o _ _ _ _ _ _ _ _ w.0.taken w.1.ensures b5.target-a.ensures (b7.wide-p.ensures ∙ b8.productions.ensures) w.5.ensures
-    (w.3.ensures.1 k o) w.4.ensures w.7.ensures) _ _ _ _ w.10.taken b9.terminals-terminals.ensures w.11.ensures w.12.ensures w.13.taken w.9.inv))
-    b3.states-test.branch
+    subst (Crossed (Stands a.c.now a.t.now a.w.now a.z.now a.n k) a.n (terminals a.c.now) b4.states.q) (sym w.m-is)
+    (crossed _ _ _ _ _ k b14.requires.0 o _ _ (b4.states.invariant.1 k o) w.states-test.true _ _ _ _
+    (known _ _ _ _ _ k b14.requires.0 o _ _ _ _ _ _ _ _ w.states-test.true w.wider-state.ensures b5.target-a.ensures (b7.wide-p.ensures ∙ b8.productions.ensures) w.shifts.ensures
+    (w.words-found.ensures.1 k o) w.acceptance-accept.ensures w.meeting-meet.ensures) _ _ _ _ w.loop-m-test.true b9.terminals-terminals.ensures w.wider.ensures w.has.ensures w.if-has.true w.loop-m.invariant))
+    b3.states-test.branch-raw
     in
     searched_met _ _ _ _ _ k b14.requires.0 o _ _ _ _ (b4.states.invariant.1 k o) x
     (c.conflict.ensures _ k _ o b14.requires.0.numbered x.terminal

@@ -4,27 +4,27 @@ use borrow.Author.Rules.{rules}
 use Rattle.merge.proofs.judge.Statement.{statement}
 use Rattle.merge.proofs.judge.Tie as tie
 
-returns_2 : tie.Need-returns-2
-returns_2 c =
-    let b4 = c.before.before.before.before in
-    second_told _ _ _ _ c.before.second.given.1 (passed b4.enum_told.given.1 b4.before.before.check.ensures) c.before.before.before.check2.ensures
+returns-in-Refused-second : tie.Need-returns-in-Refused-second
+returns-in-Refused-second c =
+    let b4 = c.before.before in
+    second_told _ _ _ _ c.in-Refused-second.is (passed b4.in_default.is b4.before.check-first.ensures) c.before.check-second.ensures
 
-judge-passed-requires : tie.Need-judge-passed-requires
-judge-passed-requires c κs =
-    let b3 = c.before.before.before in
-    (passed b3.enum_told.given.1 b3.before.before.check.ensures, passed c.enum-told2.given.1 c.before.before.check2.ensures)
+judge_passed-requires : tie.Need-judge_passed-requires
+judge_passed-requires c κs =
+    let b3 = c.before.before in
+    (passed b3.in_default.is b3.before.check-first.ensures, passed c.in_default-second.is c.before.check-second.ensures)
 
-pub judge-spec : {M : Type 1} → statement M
-judge-spec =
+pub judge_spec : {M : Type 1} → statement M
+judge_spec =
     tie.close
     (tie.spec
     (λ c κs. search rules)
     (λ c. search rules)
-    (λ c. first_told _ _ _ _ c.before.first.given.1 c.before.before.before.check.ensures)
+    (λ c. first_told _ _ _ _ c.in-Refused.is c.before.check-first.ensures)
     (λ c. search rules)
     (λ c κs. search rules)
     (λ c. search rules)
-    returns_2
+    returns-in-Refused-second
     (λ c. search rules)
-    judge-passed-requires
+    judge_passed-requires
     (λ c. search rules))

@@ -8,42 +8,42 @@ use Rattle.merge.proofs.AnswerLaws.{joinable, alike, short, area_told, merged_to
 use Rattle.merge.proofs.judge_passed.Statement.{statement}
 use Rattle.merge.proofs.judge_passed.Tie as tie
 
-abbrev start : tie.Else1 → tie.Start
+abbrev start : tie.Else-terminals → tie.Start
 start e = e.before.before.before.before.before
 
 -- past 53
-both : (e : tie.Else1) → Joinable (start e).args.a.now (start e).args.b.now
-both e = joinable (start e).requires e.before.before.terminals.ensures e.before.terminals2.ensures e.if1.false
+both : (e : tie.Else-terminals) → Joinable (start e).args.a.now (start e).args.b.now
+both e = joinable (start e).requires e.before.before.terminals.ensures e.before.terminals-2.ensures e.if-terminals.false
+
+returns-then-terminals : tie.Need-returns-then-terminals
+returns-then-terminals c =
+    let p = c.before.before.before.before.before.requires in
+    terminals_differ p.0 p.1 (λ e. c.if-terminals.true (c.before.before.terminals.ensures ∙ e ∙ sym c.before.terminals-2.ensures))
+
+returns-then-not-sized : tie.Need-returns-then-not-sized
+returns-then-not-sized c = too_large (both c.before.before) (sym c.before.sizes_ok-sized.ensures ∙ not-true _ c.if-not-sized.true-raw)
+
+returns-then-not-fits : tie.Need-returns-then-not-fits
+returns-then-not-fits c =
+    let b2 = c.before.before in
+    area_told _ _ _ (both b2.before) (sym b2.sizes_ok-sized.ensures ∙ not-false _ c.before.if-not-sized.false-raw) (leb-false _ _ (not-true _ c.if-not-fits.true-raw))
 
 returns : tie.Need-returns
 returns c =
-    let p = c.before.before.before.before.before.requires in
-    terminals_differ p.0 p.1 (λ e. c.if1.true (c.before.before.terminals.ensures ∙ e ∙ sym c.before.terminals2.ensures))
-
-returns_2 : tie.Need-returns-2
-returns_2 c = too_large (both c.before.before) (sym c.before.sizes-ok.ensures ∙ not-true _ c.if2.true)
-
-returns_3 : tie.Need-returns-3
-returns_3 c =
     let b2 = c.before.before in
-    area_told _ _ _ (both b2.before) (sym b2.sizes-ok.ensures ∙ not-false _ c.before.if2.false) (leb-false _ _ (not-true _ c.if3.true))
+    merged_told _ _ _ (both b2.before) (sym b2.sizes_ok-sized.ensures ∙ not-false _ c.before.if-not-sized.false-raw) (leb-true _ _ (not-false _ c.if-not-fits.false-raw))
 
-returns_4 : tie.Need-returns-4
-returns_4 c =
-    let b2 = c.before.before in
-    merged_told _ _ _ (both b2.before) (sym b2.sizes-ok.ensures ∙ not-false _ c.before.if2.false) (leb-true _ _ (not-false _ c.if3.false))
-
-pub judge-passed-spec : {M : Type 1} → statement M
-judge-passed-spec =
+pub judge_passed_spec : {M : Type 1} → statement M
+judge_passed_spec =
     tie.close
     (tie.spec
     (λ c κs. search rules)
     (λ c κs. search rules)
-    returns
+    returns-then-terminals
     (λ c κs. alike (both c))
     (λ c. search rules)
     (λ c. search rules)
-    returns_2
-    returns_3
+    returns-then-not-sized
+    returns-then-not-fits
     (λ c. omega (arith, short _ _ 0 (both c.before.before.before)))
-    returns_4)
+    returns)

@@ -11,24 +11,24 @@ use Rattle.merge.proofs.merge.Statement.{statement}
 use Rattle.merge.proofs.merge.Tie as tie
 
 write-requires : tie.Need-write-requires
-write-requires c κs = merging _ _ _ c.before.before.before.judge.ensures (ap (λ (r : Answer). peek (answer_numbers r)) c.before.enum_told.given.1)
+write-requires c κs = merging _ _ _ c.before.before.judge-answer.ensures (ap (λ (r : Answer). peek (answer_numbers r)) c.before.in-Merged.is)
 
-returns : tie.Need-returns
-returns c =
+returns-in-Merged : tie.Need-returns-in-Merged
+returns-in-Merged c =
     let b4 = c.before.before.before.before in
-    wrote _ _ _ b4.before.before.judge.ensures b4.enum_told.given.1 c.before.before.write.ensures
+    wrote _ _ _ b4.before.judge-answer.ensures b4.in-Merged.is c.before.before.write.ensures
 
-returns_2 : tie.Need-returns-2
-returns_2 c =
-    left_alone _ _ _ c.before.judge.result c.before.judge.ensures (λ z. (let h = only_merged c.before.judge.result z in let k = rw h.1 at c.match.keys2 in miss (1 ∷ 2 ∷ 3 ∷ 4 ∷ 5 ∷ []) 0 tt k))
+returns-in_default : tie.Need-returns-in_default
+returns-in_default c =
+    left_alone _ _ _ c.before.judge-answer.result c.before.judge-answer.ensures (λ z. (let h = only_merged c.before.judge-answer.result z in let k = rw h.1 at c.in_default.in_default-own.keys2 in miss (1 ∷ 2 ∷ 3 ∷ 4 ∷ 5 ∷ []) 0 tt k))
 
-pub merge-spec : {M : Type 1} → statement M
-merge-spec =
+pub merge_spec : {M : Type 1} → statement M
+merge_spec =
     tie.close
     (tie.spec
     (λ c κs. search rules)
     (λ c. search rules)
     write-requires
     (λ c. search rules)
-    returns
-    returns_2)
+    returns-in-Merged
+    returns-in_default)

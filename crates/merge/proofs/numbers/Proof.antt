@@ -6,9 +6,9 @@ use borrow.Author.Rules.{rules}
 use Rattle.merge.proofs.numbers.Statement.{statement}
 use Rattle.merge.proofs.numbers.Tie as tie
 
-pub numbers-spec : {M : Type 1} → statement M
+pub numbers_spec : {M : Type 1} → statement M
 unfolding covered
-numbers-spec =
+numbers_spec =
     tie.close
     (tie.spec
     (λ c. search rules)
@@ -20,9 +20,9 @@ numbers-spec =
     (λ c. search rules)
     (λ c κs. search rules)
     (λ c. search rules)
-    (λ c. told c.before.a.given.1)
-    (λ c. c.about.ensures ∙ told c.before.before.a2.given.1)
-    (λ c. c.about2.ensures ∙ told c.before.before.a3.given.1)
-    (λ c. told c.enum_told.given.1)
-    (λ c. c.about3.ensures ∙ told c.before.enum-told2.given.1)
-    (λ c. told c.enum-told3.given.1))
+    (λ c. told c.in-Merged.is)
+    (λ c. c.about.ensures ∙ told c.before.in-FirstRefused.is)
+    (λ c. c.about-in-SecondRefused.ensures ∙ told c.before.in-SecondRefused.is)
+    (λ c. told c.in-TerminalsDiffer.is)
+    (λ c. c.about-in-TooLarge.ensures ∙ told c.before.in-TooLarge.is)
+    (λ c. told c.in-AreaShort.is))

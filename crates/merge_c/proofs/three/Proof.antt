@@ -8,10 +8,10 @@ use Rattle.merge_c.proofs.three.Statement.{statement}
 use Rattle.merge_c.proofs.three.Tie as tie
 
 returns : tie.Need-returns
-returns c = let l : length c.numbers.result ≡ 3 = omega arith in each_list 3 c.numbers.result l ∙ c.numbers.ensures
+returns c = let l : length c.numbers-n.result ≡ 3 = omega arith in each_list 3 c.numbers-n.result l ∙ c.numbers-n.ensures
 
-pub three-spec : {M : Type 1} → statement M
-three-spec =
+pub three_spec : {M : Type 1} → statement M
+three_spec =
     tie.close
     (tie.spec
     (λ c κs. search rules)

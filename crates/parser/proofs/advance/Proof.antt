@@ -6,112 +6,112 @@ use Rattle.parser.proofs.Going.{Going, going_start, countable, countable_next, s
 use Rattle.parser.proofs.advance.Statement.{statement}
 use Rattle.parser.proofs.advance.Tie as tie
 
-abbrev invariant_loop : tie.invariant-loop
-invariant_loop table cells line barred stack₀ list₀ z from stack list s = Going table line barred cells from z stack₀ list₀ stack list s
+abbrev invariant-loop-z : tie.invariant-loop-z
+invariant-loop-z table cells line barred stack₀ list₀ z from stack list s = Going table line barred cells from z stack₀ list₀ stack list s
 
-abbrev decreases_loop : tie.decreases-loop
-decreases_loop table cells line barred stack₀ list₀ z from stack list s = s.left
+abbrev decreases-loop-z : tie.decreases-loop-z
+decreases-loop-z table cells line barred stack₀ list₀ z from stack list s = s.left
 
-loop_holds : tie.Need-loop-init invariant_loop decreases_loop
-loop_holds c = going_start c.before.before.before.before.before.requires.2
+loop-z-init : tie.Need-loop-z-init invariant-loop-z decreases-loop-z
+loop-z-init c = going_start c.before.before.before.before.before.requires.2
 
-action-requires : tie.Need-action-requires invariant_loop decreases_loop
-action-requires c κs = action_within c.loop.invariant.held c.before.before.before.before.before.before.requires.0
+action-a-requires : tie.Need-action-a-requires invariant-loop-z decreases-loop-z
+action-a-requires c κs = action_within c.loop-z.invariant.held c.before.before.before.before.before.before.requires.0
 
-count-requires : tie.Need-count-requires invariant_loop decreases_loop
-count-requires c κs = let b2 = c.before.before in countable b2.loop.invariant count_bits b2.before.before.before.before.before.before.requires.3
+count-requires : tie.Need-count-requires invariant-loop-z decreases-loop-z
+count-requires c κs = let b2 = c.before.before in countable b2.loop-z.invariant count_bits b2.before.before.before.before.before.before.requires.3
 
-returns : tie.Need-returns invariant_loop decreases_loop
-returns c =
+returns-then-a-eq0 : tie.Need-returns-then-a-eq0 invariant-loop-z decreases-loop-z
+returns-then-a-eq0 c =
     let b3 = c.before.before.before in
-    Advances.ended (stop_31 b3.loop.invariant b3.before.before.before.before.before.before.requires.0 c.before.before.action.ensures.0 c.before.if1.true c.count.ensures)
+    Advances.ended (stop_31 b3.loop-z.invariant b3.before.before.before.before.before.before.requires.0 c.before.before.action-a.ensures.0 c.before.if-a-eq0.true c.count.ensures)
 
-returns_2 : tie.Need-returns-2 invariant_loop decreases_loop
-returns_2 c =
+returns-then-s-eq0 : tie.Need-returns-then-s-eq0 invariant-loop-z decreases-loop-z
+returns-then-s-eq0 c =
     let b4 = c.before.before.before.before in
-    pauses b4.loop.invariant b4.before.before.before.before.before.before.requires.0 c.before.before.before.action.ensures.0 c.before.before.if1.false c.if2.true
+    pauses b4.loop-z.invariant b4.before.before.before.before.before.before.requires.0 c.before.before.before.action-a.ensures.0 c.before.before.if-a-eq0.false c.if-s-eq0.true
 
-step-requires : tie.Need-step-requires invariant_loop decreases_loop
-step-requires c κs =
+step-n-requires : tie.Need-step-n-requires invariant-loop-z decreases-loop-z
+step-n-requires c κs =
     let b6 = c.before.before.before.before.before.before in
     let b12 = b6.before.before.before.before.before.before in
-    let a = c.before.before.before.before.before.action.ensures in
-    steppable b6.loop.invariant.held b12.requires.0 b12.args.barred a.0 c.before.before.before.before.if1.false b12.requires.1 a.1 c.before.before.if2.false
+    let a = c.before.before.before.before.before.action-a.ensures in
+    steppable b6.loop-z.invariant.held b12.requires.0 b12.args.barred a.0 c.before.before.before.before.if-a-eq0.false b12.requires.1 a.1 c.before.before.if-s-eq0.false
 
-stopped-requires : tie.Need-stopped-requires invariant_loop decreases_loop
+stopped-requires : tie.Need-stopped-requires invariant-loop-z decreases-loop-z
 stopped-requires c κs =
-    let b7 = c.before.before.before.before.before.before.before in
+    let b7 = c.before.before.before.before.before in
     let b14 = b7.before.before.before.before.before.before.before in
-    countable b14.loop.invariant count_bits b14.before.before.before.before.before.before.requires.3
+    countable b14.loop-z.invariant count_bits b14.before.before.before.before.before.before.requires.3
 
-same-length-5 : tie.Need-same-length-5 invariant_loop decreases_loop
-same-length-5 c = let b8 = c.before.before.before.before.before.before.before.before in b8.step.auto.1.1.0 ∙ b8.before.before.before.before.before.before.before.loop.invariant.stacks
+shape_of-stack-in-Ended : tie.Need-shape_of-stack-in-Ended invariant-loop-z decreases-loop-z
+shape_of-stack-in-Ended c = let b8 = c.before.before.before.before.before.before in b8.step-n.auto.stack ∙ b8.before.before.before.before.before.before.before.loop-z.invariant.stacks
 
-same-length-6 : tie.Need-same-length-6 invariant_loop decreases_loop
-same-length-6 c = let b8 = c.before.before.before.before.before.before.before.before in b8.step.auto.1.1.1.0 ∙ b8.before.before.before.before.before.before.before.loop.invariant.lists
+shape_of-list-in-Ended : tie.Need-shape_of-list-in-Ended invariant-loop-z decreases-loop-z
+shape_of-list-in-Ended c = let b8 = c.before.before.before.before.before.before in b8.step-n.auto.list ∙ b8.before.before.before.before.before.before.before.loop-z.invariant.lists
 
-returns_3 : tie.Need-returns-3 invariant_loop decreases_loop
-returns_3 c =
-    let b8 = c.before.before.before.before.before.before.before.before in
+returns-in-Ended : tie.Need-returns-in-Ended invariant-loop-z decreases-loop-z
+returns-in-Ended c =
+    let b8 = c.before.before.before.before.before.before in
     let b15 = b8.before.before.before.before.before.before.before in
-    Advances.ended (stop_step b15.loop.invariant b15.before.before.before.before.before.before.requires.0 b8.before.before.before.before.before.before.action.ensures.0 b8.before.before.before.before.before.if1.false b8.before.before.before.if2.false (rw c.before.before.n.given.1 at b8.step.ensures) c.stopped.ensures)
+    Advances.ended (stop_step b15.loop-z.invariant b15.before.before.before.before.before.before.requires.0 b8.before.before.before.before.before.before.action-a.ensures.0 b8.before.before.before.before.before.if-a-eq0.false b8.before.before.before.if-s-eq0.false (rw c.before.in-Ended.is at b8.step-n.ensures) c.stopped.ensures)
 
-loop_less : tie.Need-loop-smaller invariant_loop decreases_loop
-loop_less c =
-    let b7 = c.before.before.before.before.before.before.before in
+loop-z-smaller : tie.Need-loop-z-smaller invariant-loop-z decreases-loop-z
+loop-z-smaller c =
+    let b7 = c.before.before.before.before.before in
     let b14 = b7.before.before.before.before.before.before.before in
-    falls b14.loop.invariant b14.before.before.before.before.before.before.requires.0 b7.before.before.before.before.before.before.action.ensures.0 b7.before.before.before.before.before.if1.false b7.before.before.before.if2.false (rw c.before.n2.given.1 at b7.step.ensures)
+    falls b14.loop-z.invariant b14.before.before.before.before.before.before.requires.0 b7.before.before.before.before.before.before.action-a.ensures.0 b7.before.before.before.before.before.if-a-eq0.false b7.before.before.before.if-s-eq0.false (rw c.in-Moved.is at b7.step-n.ensures)
 
-loop_again : tie.Need-loop-preserved invariant_loop decreases_loop
-loop_again c =
-    let b7 = c.before.before.before.before.before.before.before in
+loop-z-preserved : tie.Need-loop-z-preserved invariant-loop-z decreases-loop-z
+loop-z-preserved c =
+    let b7 = c.before.before.before.before.before in
     let b14 = b7.before.before.before.before.before.before.before in
-    goes_on b14.loop.invariant b14.before.before.before.before.before.before.requires.0 b7.before.before.before.before.before.before.action.ensures.0 b7.before.before.before.before.before.if1.false b7.before.before.before.if2.false (rw c.before.n2.given.1 at b7.step.ensures) b7.step.auto.1.1.0 b7.step.auto.1.1.1.0
+    goes_on b14.loop-z.invariant b14.before.before.before.before.before.before.requires.0 b7.before.before.before.before.before.before.action-a.ensures.0 b7.before.before.before.before.before.if-a-eq0.false b7.before.before.before.if-s-eq0.false (rw c.in-Moved.is at b7.step-n.ensures) b7.step-n.auto.stack b7.step-n.auto.list
 
-accepted-requires : tie.Need-accepted-requires invariant_loop decreases_loop
+accepted-requires : tie.Need-accepted-requires invariant-loop-z decreases-loop-z
 accepted-requires c κs =
-    let b6 = c.before.before.before.before.before.before in
+    let b6 = c.before.before.before.before.before in
     let b13 = b6.before.before.before.before.before.before.before in
-    countable_next b13.loop.invariant count_bits b13.before.before.before.before.before.before.requires.3 b6.before.before.before.if2.false
+    countable_next b13.loop-z.invariant count_bits b13.before.before.before.before.before.before.requires.3 b6.before.before.before.if-s-eq0.false
 
-same-length-7 : tie.Need-same-length-7 invariant_loop decreases_loop
-same-length-7 c = let b7 = c.before.before.before.before.before.before.before in b7.step.auto.1.1.0 ∙ b7.before.before.before.before.before.before.before.loop.invariant.stacks
+shape_of-stack-in-Accepted : tie.Need-shape_of-stack-in-Accepted invariant-loop-z decreases-loop-z
+shape_of-stack-in-Accepted c = let b7 = c.before.before.before.before.before.before in b7.step-n.auto.stack ∙ b7.before.before.before.before.before.before.before.loop-z.invariant.stacks
 
-same-length-8 : tie.Need-same-length-8 invariant_loop decreases_loop
-same-length-8 c = let b7 = c.before.before.before.before.before.before.before in b7.step.auto.1.1.1.0 ∙ b7.before.before.before.before.before.before.before.loop.invariant.lists
+shape_of-list-in-Accepted : tie.Need-shape_of-list-in-Accepted invariant-loop-z decreases-loop-z
+shape_of-list-in-Accepted c = let b7 = c.before.before.before.before.before.before in b7.step-n.auto.list ∙ b7.before.before.before.before.before.before.before.loop-z.invariant.lists
 
-returns_4 : tie.Need-returns-4 invariant_loop decreases_loop
-returns_4 c =
-    let b7 = c.before.before.before.before.before.before.before in
+returns-in-Accepted : tie.Need-returns-in-Accepted invariant-loop-z decreases-loop-z
+returns-in-Accepted c =
+    let b7 = c.before.before.before.before.before.before in
     let b14 = b7.before.before.before.before.before.before.before in
-    Advances.ended (accept_step b14.loop.invariant b14.before.before.before.before.before.before.requires.0 b7.before.before.before.before.before.before.action.ensures.0 b7.before.before.before.before.before.if1.false b7.before.before.before.if2.false (rw c.before.enum_told.given.1 at b7.step.ensures) c.accepted.ensures)
+    Advances.ended (accept_step b14.loop-z.invariant b14.before.before.before.before.before.before.requires.0 b7.before.before.before.before.before.before.action-a.ensures.0 b7.before.before.before.before.before.if-a-eq0.false b7.before.before.before.if-s-eq0.false (rw c.before.in-Accepted.is at b7.step-n.ensures) c.accepted.ensures)
 
-pub advance-spec : {M : Type 1} → statement M
-advance-spec =
+pub advance_spec : {M : Type 1} → statement M
+advance_spec =
     tie.close
     (tie.spec
-    invariant_loop
-    decreases_loop
-    loop_holds
-    action-requires
+    invariant-loop-z
+    decreases-loop-z
+    loop-z-init
+    action-a-requires
     count-requires
-    (λ c. c.before.before.before.loop.invariant.stacks)
-    (λ c. c.before.before.before.loop.invariant.lists)
-    returns
-    (λ c. c.before.before.before.before.loop.invariant.stacks)
-    (λ c. c.before.before.before.before.loop.invariant.lists)
-    returns_2
-    step-requires
+    (λ c. c.before.before.before.loop-z.invariant.stacks)
+    (λ c. c.before.before.before.loop-z.invariant.lists)
+    returns-then-a-eq0
+    (λ c. c.before.before.before.before.loop-z.invariant.stacks)
+    (λ c. c.before.before.before.before.loop-z.invariant.lists)
+    returns-then-s-eq0
+    step-n-requires
     (λ c. search rules)
     stopped-requires
-    same-length-5
-    same-length-6
-    returns_3
+    shape_of-stack-in-Ended
+    shape_of-list-in-Ended
+    returns-in-Ended
     (λ c. search rules)
-    loop_less
-    loop_again
+    loop-z-smaller
+    loop-z-preserved
     (λ c. search rules)
     accepted-requires
-    same-length-7
-    same-length-8
-    returns_4)
+    shape_of-stack-in-Accepted
+    shape_of-list-in-Accepted
+    returns-in-Accepted)

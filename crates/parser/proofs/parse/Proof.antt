@@ -4,7 +4,7 @@ use Rattle.parser.proofs.parse.Statement.{statement}
 use Rattle.parser.proofs.parse.Tie as tie
 
 returns : tie.Need-returns
-returns c = rw (restricted_none _ _ _ _ _ _) at c.before.before.before.before.before.before.parse-restricted.ensures
+returns c = rw (restricted_none _ _ _ _ _ _) at c.before.before.before.before.before.before.parse_restricted.ensures
 
-pub parse-spec : {M : Type 1} → statement M
-parse-spec = tie.close (tie.spec (λ c κs. search rules) (λ c. search rules) (λ c. search rules) (λ c. search rules) returns)
+pub parse_spec : {M : Type 1} → statement M
+parse_spec = tie.close (tie.spec (λ c κs. search rules) (λ c. search rules) (λ c. search rules) (λ c. search rules) returns)

@@ -5,21 +5,21 @@ use borrow.Author.Rules.{rules}
 use Rattle.parser.proofs.parse_restricted.Statement.{statement}
 use Rattle.parser.proofs.parse_restricted.Tie as tie
 
-read-restricted-requires : tie.Need-read-restricted-requires
-read-restricted-requires c κs = sym c.before.before.before.before.before.check-restricted.ensures ∙ ap verdict_number c.before.before.before.enum_told.given.1
+read_restricted-requires : tie.Need-read_restricted-requires
+read_restricted-requires c κs = sym c.before.before.before.before.check_restricted-v.ensures ∙ ap verdict_number c.before.before.before.in-Passed.is
 
-returns : tie.Need-returns
-returns c = refuses_restricted _ _ _ _ _ _ _ c.before.v.given.0.0 (ap verdict_number (sym c.before.v.given.1) ∙ c.before.before.before.check-restricted.ensures)
+returns-in-Refused : tie.Need-returns-in-Refused
+returns-in-Refused c = refuses_restricted _ _ _ _ _ _ _ c.in-Refused.e (ap verdict_number (sym c.in-Refused.is) ∙ c.before.check_restricted-v.ensures)
 
-pub parse-restricted-spec : {M : Type 1} → statement M
-parse-restricted-spec =
+pub parse_restricted_spec : {M : Type 1} → statement M
+parse_restricted_spec =
     tie.close
     (tie.spec
     (λ c κs. search rules)
     (λ c. search rules)
     (λ c. search rules)
-    read-restricted-requires
-    returns
+    read_restricted-requires
+    returns-in-Refused
     (λ c. search rules)
     (λ c. search rules)
     (λ c. search rules)

@@ -5,8 +5,8 @@ use borrow.Author.Rules.{rules}
 use Rattle.parser.proofs.read.Statement.{statement}
 use Rattle.parser.proofs.read.Tie as tie
 
-run-requires : tie.Need-run-requires
-run-requires c κs = let z = c.before.before.before.before.before.before.before.before.requires in (z.passed, z.short, z.second)
+run-r-requires : tie.Need-run-r-requires
+run-r-requires c κs = let z = c.before.before.before.before.before.before.before.before.requires in (z.passed, z.short, z.second)
 
 finish-requires : tie.Need-finish-requires
 finish-requires c κs =
@@ -15,16 +15,16 @@ finish-requires c κs =
     let b16 = b11.before.before.before.before.before in
     let z = b16.requires in
     let p = z.passed in
-    let r = b7.run.ensures in
-    (p.table, z.word, p.input_passed, omega (arith, p.places, z.second, b7.run.auto.1.1.1.1.1.0), explorable r.0.says (run_to_within _ b16.args.stack.now b16.args.list.now p b16.args.step-limit), r.1)
+    let r = b7.run-r.ensures in
+    (p.table, z.word, p.input_passed, omega (arith, p.places, z.second, b7.run-r.auto.second), explorable r.0.says (run_to_within _ b16.args.stack.now b16.args.list.now p b16.args.step_limit), r.1)
 
 returns : tie.Need-returns
 returns c =
     let m5 = c.before.before.before.before.before in
     let b10 = m5.before.before.before.before.before in
-    let f = rw b10.run.auto.1.1.1.1.1.0 at c.before.before.finish.ensures in
-    let r = b10.run.ensures.0 in
+    let f = rw b10.run-r.auto.second at c.before.before.finish.ensures in
+    let r = b10.run-r.ensures.0 in
     record { answer = f.0 _ r.says; stack = r.stack; list = r.list; second = f.1 }
 
 pub read_spec : {M : Type 1} → statement M
-read_spec = tie.close (tie.spec run-requires finish-requires (λ c. search rules) (λ c. search rules) (λ c. search rules) returns)
+read_spec = tie.close (tie.spec run-r-requires finish-requires (λ c. search rules) (λ c. search rules) (λ c. search rules) returns)

@@ -5,14 +5,14 @@ use borrow.Author.Rules.{rules}
 use Rattle.parser.proofs.stopped.Statement.{statement}
 use Rattle.parser.proofs.stopped.Tie as tie
 
-returns : tie.Need-returns
-returns c = rw c.enum_told.given.1 (ap (λ (x : List ℕ). 33 ∷ x) c.before.before.count.ensures)
+returns-in-StackFull : tie.Need-returns-in-StackFull
+returns-in-StackFull c = rw c.in-StackFull.is (ap (λ (x : List ℕ). 33 ∷ x) c.before.count-c.ensures)
 
-returns_2 : tie.Need-returns-2
-returns_2 c = rw c.enum-told2.given.1 (ap (λ (x : List ℕ). 34 ∷ x) c.before.before.count.ensures)
+returns-in-ListFull : tie.Need-returns-in-ListFull
+returns-in-ListFull c = rw c.in-ListFull.is (ap (λ (x : List ℕ). 34 ∷ x) c.before.count-c.ensures)
 
-returns_3 : tie.Need-returns-3
-returns_3 c = rw c.enum-told3.given.1 (ap (λ (x : List ℕ). 35 ∷ x) c.before.before.count.ensures)
+returns-in-Broken : tie.Need-returns-in-Broken
+returns-in-Broken c = rw c.in-Broken.is (ap (λ (x : List ℕ). 35 ∷ x) c.before.count-c.ensures)
 
-pub stopped-spec : {M : Type 1} → statement M
-stopped-spec = tie.close (tie.spec (λ c κs. search rules) (λ c. search rules) (λ c. search rules) (λ c. search rules) returns returns_2 returns_3)
+pub stopped_spec : {M : Type 1} → statement M
+stopped_spec = tie.close (tie.spec (λ c κs. search rules) (λ c. search rules) (λ c. search rules) (λ c. search rules) returns-in-StackFull returns-in-ListFull returns-in-Broken)

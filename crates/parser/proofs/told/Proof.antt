@@ -3,11 +3,11 @@ use borrow.Author.Rules.{rules}
 use Rattle.parser.proofs.told.Statement.{statement}
 use Rattle.parser.proofs.told.Tie as tie
 
-returns : tie.Need-returns
-returns c = rw (c.before.before.e.given.1, c.size.ensures) refl
+returns-in-Known : tie.Need-returns-in-Known
+returns-in-Known c = rw (c.before.in-Known.is, c.size.ensures) refl
 
-returns_2 : tie.Need-returns-2
-returns_2 c = rw c.enum_told.given.1 refl
+returns-in-Cut : tie.Need-returns-in-Cut
+returns-in-Cut c = rw c.in-Cut.is refl
 
-pub told-spec : {M : Type 1} → statement M
-told-spec = tie.close (tie.spec (λ c. search rules) (λ c κs. search rules) (λ c. search rules) returns returns_2)
+pub told_spec : {M : Type 1} → statement M
+told_spec = tie.close (tie.spec (λ c. search rules) (λ c κs. search rules) (λ c. search rules) returns-in-Known returns-in-Cut)

@@ -8,8 +8,8 @@ use Rattle.sample_words.specs.Words.{key_of}
 use Rattle.sample_words.proofs.left_key.Statement.{statement}
 use Rattle.sample_words.proofs.left_key.Tie as tie
 
-sub_wide : tie.Need-overflow-sub-wide
-sub_wide c =
+overflow_sub-left : tie.Need-overflow_sub-left
+overflow_sub-left c =
     let start = c.before.before.before in
     omega (arith, c.terminals.ensures, c.before.left.ensures, (formed _ (well_formed _ start.requires.0)).left_nonterminal _ start.requires.1)
 
@@ -25,5 +25,5 @@ returns c =
     let j : c.before.wide.result ≡ left_of start.args.c.now start.args.r - terminals start.args.c.now = omega (arith, c.before.wide.ensures, c.before.before.terminals.ensures, c.before.before.before.left.ensures) in
     (c.key.ensures.0 ∙ ap (key_of start.args.u) j, c.key.ensures.1)
 
-pub left-key-spec : {M : Type 1} → statement M
-left-key-spec = tie.close (tie.spec (λ c κs. search rules) (λ c κs. search rules) sub_wide (λ c κs. search rules) key-requires returns)
+pub left_key_spec : {M : Type 1} → statement M
+left_key_spec = tie.close (tie.spec (λ c κs. search rules) (λ c κs. search rules) overflow_sub-left (λ c κs. search rules) key-requires returns)

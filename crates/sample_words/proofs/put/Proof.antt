@@ -16,18 +16,18 @@ use Rattle.sample_words.proofs.put.Tie as tie
 key-requires : tie.Need-key-requires
 key-requires c κs =
     let start = c.before.before.before.before.before in
-    omega (arith, c.wide.ensures, c.before.before.before.terminals.ensures, start.requires.1, (well_formed _ start.requires.0).limits.nonterminals_to)
+    omega (arith, c.wide.ensures, c.before.before.before.terminals-t.ensures, start.requires.1, (well_formed _ start.requires.0).limits.nonterminals_to)
 
 -- a nonterminal's place
 module _ (c : tie.After-key) where
   abbrev start : tie.Start
   start = c.before.before.before.before.before.before
 
-  abbrev first : tie.After-terminals
+  abbrev first : tie.After-terminals-t
   first = c.before.before.before.before
 
   nonterminal : terminals c.before.before.before.before.before.before.args.c.now ≤ c.before.before.before.before.before.before.args.x
-  nonterminal = omega (arith, c.before.before.before.if1.true, first.terminals.ensures)
+  nonterminal = omega (arith, c.before.before.before.if-t-x.true, first.terminals.ensures)
 
   key_is : c.key.result ≡ key_of c.before.before.before.before.before.before.args.u (c.before.before.before.before.before.before.args.x - terminals c.before.before.before.before.before.before.args.c.now)
   key_is =
@@ -37,11 +37,11 @@ module _ (c : tie.After-key) where
   length_is : get_or c.before.before.before.before.before.before.args.e.now c.key.result 0 ≡ count_of c.before.before.before.before.before.before.args.c.now c.before.before.before.before.before.before.args.e.now c.before.before.before.before.before.before.args.u c.before.before.before.before.before.before.args.x
   length_is = ap (λ (i : ℕ). get_or start.args.e.now i 0) key_is ∙ sym (count_nonterminal start.args.c.now start.args.e.now start.args.u start.args.x nonterminal)
 
-put-word-requires : tie.Need-put-word-requires
-put-word-requires c κs = (c.key.ensures.1, omega (arith, length_is c, (start c).requires.2), (start c).requires.3)
+put_word-requires : tie.Need-put_word-requires
+put_word-requires c κs = (c.key.ensures.1, omega (arith, length_is c, (start c).requires.2), (start c).requires.3)
 
-returns : tie.Need-returns
-returns c =
+returns-then-t-x : tie.Need-returns-then-t-x
+returns-then-t-x c =
     let k = c.before in
     let a = (start k).args in (
       omega (arith, length_is k, c.put_word.ensures.0),
@@ -49,18 +49,18 @@ returns c =
     )
 
 -- a terminal
-module _ (c : tie.Else1) where
+module _ (c : tie.Else-t-x) where
   abbrev begin : tie.Start
   begin = c.before.before.before
 
   terminal : c.before.before.before.args.x < terminals c.before.before.before.args.c.now
-  terminal = omega (arith, c.if1.false, c.before.terminals.ensures)
+  terminal = omega (arith, c.if-t-x.false, c.before.terminals-t.ensures)
 
   counts_one : 1 ≡ count_of c.before.before.before.args.c.now c.before.before.before.args.e.now c.before.before.before.args.u c.before.before.before.args.x
   counts_one = one_long _ _ _ _ terminal (omega (arith, begin.pre.2))
 
-returns_2 : tie.Need-returns-2
-returns_2 c =
+returns : tie.Need-returns
+returns c =
     let a = (begin c).args in (
       omega (arith, counts_one c),
       λ v l e. rw (piece_terminal a.c.now a.e.now a.w.now a.u a.x (terminal c)) (one_more v a.x (omega (arith, counts_one c, (begin c).requires.2)) l e),
@@ -73,9 +73,9 @@ put_spec =
     (λ c κs. search rules)
     (λ c κs. search rules)
     key-requires
-    put-word-requires
-    returns
+    put_word-requires
+    returns-then-t-x
     (λ c. record { fits = omega (arith, terminal c, (well_formed _ (begin c).requires.0).limits.terminals_to) })
     (λ c. omega (arith, counts_one c, (begin c).requires.2))
     (λ c. search rules)
-    returns_2)
+    returns)

@@ -8,8 +8,8 @@ use Rattle.sample_words.proofs.store.Tie as tie
 
 returns : tie.Need-returns
 returns c =
-    let a = c.before.before.before.before.before.args in
-    (refl, ap (λ (v : List ℕ). set a.w.now a.k v) c.before.compose.ensures)
+    let a = c.before.before.before.before.args in
+    (refl, ap (λ (v : List ℕ). set a.w.now a.k v) c.before.before.compose.ensures)
 
 pub store_spec : {M : Type 1} → statement M
 store_spec =

@@ -11,65 +11,65 @@ use Rattle.states.proofs.skip.Tie as tie
 from_least : (x y m end : ℕ) → x ≤ m → x ≤ end → (y < end → y ≡ m) → x ≤ y
 from_least x y m end a b f = ⊎_elim (λ (g : y < end). let e : y ≡ m = f g in omega arith) (λ (g : end ≤ y). omega arith) (lt_or_ge y end)
 
-abbrev invariant_loop : tie.invariant-loop
-invariant_loop t₀ at x end y k₀ t k = Zeros t₀ at x k t × (k ≤ y)
+abbrev invariant-loop-k : tie.invariant-loop-k
+invariant-loop-k t₀ at x end y k₀ t k = Zeros t₀ at x k t × (k ≤ y)
 
-abbrev decreases_loop : tie.decreases-loop
-decreases_loop t₀ at x end y k₀ t k = y - k
+abbrev decreases-loop-k : tie.decreases-loop-k
+decreases-loop-k t₀ at x end y k₀ t k = y - k
 
-next-requires : tie.Need-next-requires invariant_loop decreases_loop
+next-requires : tie.Need-next-requires invariant-loop-k decreases-loop-k
 next-requires c κs = omega (arith, c.before.requires.0, c.before.requires.1)
 
-least-requires : tie.Need-least-requires invariant_loop decreases_loop
-least-requires c κs = search rules
+least-y-requires : tie.Need-least-y-requires invariant-loop-k decreases-loop-k
+least-y-requires c κs = search rules
 
-loop_holds : tie.Need-loop-init invariant_loop decreases_loop
-loop_holds c = (zeros_start _ _ _, from_least _ _ _ _ c.before.next.ensures.least c.before.before.before.requires.0 c.least.ensures.2)
+loop-k-init : tie.Need-loop-k-init invariant-loop-k decreases-loop-k
+loop-k-init c = (zeros_start _ _ _, from_least _ _ _ _ c.before.next.ensures.least c.before.before.before.requires.0 c.least-y.ensures.2)
 
-add-t : tie.Need-overflow-add-t invariant_loop decreases_loop
-add-t c = omega (arith, c.before.before.least.ensures.1, c.before.before.before.before.before.requires.2)
+overflow_add-t : tie.Need-overflow_add-t invariant-loop-k decreases-loop-k
+overflow_add-t c = omega (arith, c.before.before.least-y.ensures.1, c.before.before.before.before.before.requires.2)
 
-mul-t : tie.Need-overflow-mul-t invariant_loop decreases_loop
-mul-t c = omega (arith, c.before.before.least.ensures.1, c.before.before.before.before.before.requires.2)
+offset_bounds-t-at : tie.Need-offset_bounds-t-at invariant-loop-k decreases-loop-k
+offset_bounds-t-at c = omega (arith, c.before.before.least-y.ensures.1, c.before.before.before.before.before.requires.2)
 
-slice-write-t : tie.Need-slice-write-t invariant_loop decreases_loop
-slice-write-t c = omega (arith, c.before.before.least.ensures.1, c.before.before.before.before.before.requires.2, c.before.before.before.before.before.requires.3, c.before.loop.invariant.0.long)
+bounds-t-at : tie.Need-bounds-t-at invariant-loop-k decreases-loop-k
+bounds-t-at c = omega (arith, c.before.before.least-y.ensures.1, c.before.before.before.before.before.requires.2, c.before.before.before.before.before.requires.3, c.before.loop-k.invariant.0.long)
 
-add-k : tie.Need-overflow-add-k invariant_loop decreases_loop
-add-k c = omega (arith, c.before.before.least.ensures.1, c.before.before.before.before.before.requires.1)
+overflow_add-k : tie.Need-overflow_add-k invariant-loop-k decreases-loop-k
+overflow_add-k c = omega (arith, c.before.before.least-y.ensures.1, c.before.before.before.before.before.requires.1)
 
-loop_less : tie.Need-loop-smaller invariant_loop decreases_loop
-loop_less c = omega arith
+loop-k-smaller : tie.Need-loop-k-smaller invariant-loop-k decreases-loop-k
+loop-k-smaller c = omega arith
 
-loop_again : tie.Need-loop-preserved invariant_loop decreases_loop
-loop_again c =
-    let loop = c.before.loop in
-    (zeros_more _ _ _ _ _ loop.invariant.0 (omega (arith, c.before.before.least.ensures.1, c.before.before.before.before.before.requires.2, c.before.before.before.before.before.requires.3, loop.invariant.0.long)), omega arith)
+loop-k-preserved : tie.Need-loop-k-preserved invariant-loop-k decreases-loop-k
+loop-k-preserved c =
+    let loop = c.before.loop-k in
+    (zeros_more _ _ _ _ _ loop.invariant.0 (omega (arith, c.before.before.least-y.ensures.1, c.before.before.before.before.before.requires.2, c.before.before.before.before.before.requires.3, loop.invariant.0.long)), omega arith)
 
-same_length : tie.Need-same-length invariant_loop decreases_loop
-same_length c = c.before.loop.invariant.0.long
+shape_of-t : tie.Need-shape_of-t invariant-loop-k decreases-loop-k
+shape_of-t c = c.before.loop-k.invariant.0.long
 
-returns : tie.Need-returns invariant_loop decreases_loop
+returns : tie.Need-returns invariant-loop-k decreases-loop-k
 returns c =
-    let loop = c.before.loop in
-    let least-call = c.before.before.least in
-    let e : loop.k ≡ least-call.result = omega (arith, c.loop-test.false, loop.invariant.1) in
+    let loop = c.before.loop-k in
+    let least-call = c.before.before.least-y in
+    let e : loop.k ≡ least-call.result = omega (arith, c.loop-k-test.false, loop.invariant.1) in
     skipped _ _ _ _ _ _ _ _ c.before.before.before.before.before.requires.1 c.before.before.before.next.ensures least-call.ensures.0 least-call.ensures.1 least-call.ensures.2 (rw e at loop.invariant.0)
 
-pub skip-spec : {M : Type 1} → statement M
-skip-spec =
+pub skip_spec : {M : Type 1} → statement M
+skip_spec =
     tie.close
     (tie.spec
-    invariant_loop
-    decreases_loop
+    invariant-loop-k
+    decreases-loop-k
     next-requires
-    least-requires
-    loop_holds
-    add-t
-    mul-t
-    slice-write-t
-    add-k
-    loop_less
-    loop_again
-    same_length
+    least-y-requires
+    loop-k-init
+    overflow_add-t
+    offset_bounds-t-at
+    bounds-t-at
+    overflow_add-k
+    loop-k-smaller
+    loop-k-preserved
+    shape_of-t
     returns)

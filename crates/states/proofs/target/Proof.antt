@@ -18,55 +18,55 @@ first_below s r q t =
     let l : t.0 < itemLimit = t.1 in
     ⊎_elim (λ (g : r < itemLimit). g) (λ (g : itemLimit ≤ r). absurd (true≢false (sym t.2 ∙ q.gap t.0 zero-le (omega arith)))) (lt-or-ge r itemLimit)
 
-add-load : tie.Need-overflow-add-load
-add-load c =
-    let args = c.before.before.before.before.args in
-    let pre = c.before.before.before.before.requires in
+overflow_add-x : tie.Need-overflow_add-x
+overflow_add-x c =
+    let args = c.before.before.before.args in
+    let pre = c.before.before.before.requires in
     let wf = well-formed args.c.now pre.0 in
     omega (arith, wf.limits.terminals-to, wf.limits.nonterminals-to, pre.6)
 
-mul-load : tie.Need-overflow-mul-load
-mul-load c =
-    let args = c.before.before.before.before.args in
-    let pre = c.before.before.before.before.requires in
+overflow_mul-x : tie.Need-overflow_mul-x
+overflow_mul-x c =
+    let args = c.before.before.before.args in
+    let pre = c.before.before.before.requires in
     let wf = well-formed args.c.now pre.0 in
     omega (arith, wf.limits.terminals-to, wf.limits.nonterminals-to, pre.6)
 
 load-requires : tie.Need-load-requires
 load-requires c κs =
-    let args = c.before.before.before.before.args in
-    let pre = c.before.before.before.before.requires in
+    let args = c.before.before.before.args in
+    let pre = c.before.before.before.requires in
     let wf = well-formed args.c.now pre.0 in
     omega (arith, wf.limits.terminals-to, wf.limits.nonterminals-to, pre.6, pre.3.room)
 
-advance-requires : tie.Need-advance-requires
-advance-requires c κs = search rules
+advance-core-requires : tie.Need-advance-core-requires
+advance-core-requires c κs = search rules
 
-closure-requires : tie.Need-closure-requires
-closure-requires c κs = search rules
+closure-d-requires : tie.Need-closure-d-requires
+closure-d-requires c κs = search rules
 
 next-requires : tie.Need-next-requires
 next-requires c κs = search rules
 
 place-requires : tie.Need-place-requires
 place-requires c κs =
-    let args = c.before.before.before.before.before.before.before.before.before.before.args in
-    let pre = c.before.before.before.before.before.before.before.before.before.before.requires in
+    let args = c.before.before.before.before.before.before.before.before.args in
+    let pre = c.before.before.before.before.before.before.before.before.requires in
     let wf = well-formed args.c.now pre.0 in
-    let some = some-advanced args.c.now args.z.now args.s args.x wf pre.3.masks pre.5 pre.6 _ _ c.before.before.before.before.before.load.ensures c.before.before.before.before.advance.ensures pre.7 in
+    let some = some-advanced args.c.now args.z.now args.s args.x wf pre.3.masks pre.5 pre.6 _ _ c.before.before.before.before.load.ensures c.before.before.before.advance-core.ensures pre.7 in
     (pre.4, omega (arith, first_below _ _ c.next.ensures some), pre.3.room)
 
-same_length : tie.Need-same-length
-same_length c = search rules
+shape_of-z : tie.Need-shape_of-z
+shape_of-z c = search rules
 
 returns : tie.Need-returns
 returns c =
-    let args = c.before.before.before.before.before.before.before.before.before.before.before.before.before.args in
-    let pre = c.before.before.before.before.before.before.before.before.before.before.before.before.before.requires in
+    let args = c.before.before.before.before.before.before.before.before.before.before.before.args in
+    let pre = c.before.before.before.before.before.before.before.before.before.before.before.requires in
     let wf = well-formed args.c.now pre.0 in
-    let load-call = c.before.before.before.before.before.before.before.before.load in
-    let advance-call = c.before.before.before.before.before.before.before.advance in
-    let closure-call = c.before.before.before.before.before.closure in
+    let load-call = c.before.before.before.before.before.before.before.load in
+    let advance-call = c.before.before.before.before.before.before.advance-core in
+    let closure-call = c.before.before.before.before.before.closure-d in
     let place-call = c.before.before.place in
     record {
       set = closure-call.result;
@@ -79,16 +79,16 @@ returns c =
       placed = place-call.ensures;
     }
 
-pub target-spec : {M : Type 1} → statement M
-target-spec =
+pub target_spec : {M : Type 1} → statement M
+target_spec =
     tie.close
     (tie.spec
-    add-load
-    mul-load
+    overflow_add-x
+    overflow_mul-x
     load-requires
-    advance-requires
-    closure-requires
+    advance-core-requires
+    closure-d-requires
     next-requires
     place-requires
-    same_length
+    shape_of-z
     returns)
