@@ -72,7 +72,7 @@ class Places:
 
     def named(self, place, rest):
         """What a call's step says of each parameter goes by name today: `auto.1.0` is `auto.NAME`."""
-        for field, names in (("auto", self.params.get(place)), ("new", self.lasts.get(place))):
+        for field, names in (("auto", self.params.get(place)), ("new", self.params.get(place))):
             if names and rest[:1] == [field] and len(rest) > 1 and rest[1] in ("0", "1"):
                 k = 0
                 while 1 + k < len(rest) and rest[1 + k] == "1":
@@ -269,15 +269,57 @@ def split_arrows(sig):
     return out
 
 
+def without_aggregates(text, given, needs, said):
+    """The text without the goals that are no longer asked: that a slice of an array is a slice."""
+    if len(given) == len(needs):
+        return text
+    gone, k = [], 0
+    for i, g in enumerate(given):
+        asks = "κs" in g or g.endswith(("requires", "requires-2", "requires_2", "requires-3"))
+        if k < len(needs) and not g.startswith(("slice-aggregate", "slice_aggregate")) and (not g.startswith("(") or asks == ("requires" in needs[k][0])):
+            k += 1
+        else:
+            gone.append(i)
+    if k != len(needs) or len(given) - len(gone) != len(needs):
+        return text
+    head, tail = text[:text.index("tie.spec")], text[text.index("tie.spec"):]
+    at = len("tie.spec")
+    skip = len(arguments(text)) - len(given)
+    out = [tail[:at]]
+    rest = tail[at:]
+    for i, g in enumerate(arguments(text)):
+        j = rest.index(g)
+        if i - skip in gone:
+            rest = rest[j + len(g):]
+            said.append(f"dropped {g}")
+        else:
+            out.append(rest[:j + len(g)])
+            rest = rest[j + len(g):]
+    text = head + "".join(out) + rest
+    for i in gone:
+        g = given[i]
+        if re.fullmatch(ID, g):
+            text = re.sub(rf"(?m)^{re.escape(g)} : .*\n(?:unfolding .*\n)?(?:{re.escape(g)} .*\n(?: .*\n)*)+\n?", "", text)
+    return text
+
+
 def turn(path, it, fn, said, root):
     text = open(path, encoding="utf-8").read()
+    text = re.sub(r"(?<=\.)type-inv(?![\w-])", "type_inv", text)
+    words = set()
+    for folder, _, names in os.walk(os.path.join(os.path.dirname(path.split("/proofs/")[0] + "/x"), "src")):
+        for n in names:
+            words |= set(re.findall(r"\b([a-z0-9]+(?:_[a-z0-9]+)+)\s*:", open(os.path.join(folder, n), encoding="utf-8").read()))
+    for w in words:
+        text = re.sub(rf"(?<=\.(?:args|initial)\.){w.replace('_', '-')}(?![\w-])|(?<=\.ranges\.){w.replace('_', '-')}(?![\w-])", w, text) if False else re.sub(rf"(\b(?:args|ranges|initial|loop|new)\.){w.replace('_', '-')}(?![\w-])", rf"\1{w}", text)
     if "tie.spec" not in text:
         said.append("no tie.spec")
         return
     places = Places(it, root)
     loops = {plain(a): b for (a, b), _ in it["loops"]}
-    args = arguments(text)
     inv = 2 * len(it["loops"])
+    text = without_aggregates(text, arguments(text)[inv:], it["needs"], said)
+    args = arguments(text)
     needs = [n for n in it["needs"]]
     given = args[inv:] if len(args) >= inv else []
     # a measure of a recursion has no place in loops

@@ -5,17 +5,14 @@ use borrow.Author.Rules.{rules}
 use Rattle.listing.proofs.refusal.Statement.{statement}
 use Rattle.listing.proofs.refusal.Tie as tie
 
-slice-aggregate-line : tie.Need-slice-aggregate-line
-slice-aggregate-line c = search rules
-
 line-requires : tie.Need-line-requires
 line-requires c κs = search rules
 
-same_length : tie.Need-same-length
-same_length c = search rules
+shape_of-out : tie.Need-shape_of-out
+shape_of-out c = search rules
 
 returns : tie.Need-returns
 returns c = let e = refusal_done _ _ _ c.before.before.line.ensures in (e, page_used _ _ _ _ e)
 
 pub refusal_spec : {M : Type 1} → statement M
-refusal_spec = tie.close (tie.spec slice-aggregate-line line-requires same_length returns)
+refusal_spec = tie.close (tie.spec line-requires shape_of-out returns)

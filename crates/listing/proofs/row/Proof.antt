@@ -5,43 +5,35 @@ use borrow.Author.Rules.{rules}
 use Rattle.listing.proofs.row.Statement.{statement}
 use Rattle.listing.proofs.row.Tie as tie
 
-slice-aggregate-word : tie.Need-slice-aggregate-word
-slice-aggregate-word c = search rules
+word-a-requires : tie.Need-word-a-requires
+word-a-requires c κs = search rules
 
-word-requires : tie.Need-word-requires
-word-requires c κs = search rules
+number-b-requires : tie.Need-number-b-requires
+number-b-requires c κs = search rules
 
-number-requires : tie.Need-number-requires
-number-requires c κs = search rules
+word-c-requires : tie.Need-word-c-requires
+word-c-requires c κs = search rules
 
-slice-aggregate-word-2 : tie.Need-slice-aggregate-word-2
-slice-aggregate-word-2 c = search rules
+numbers-d-requires : tie.Need-numbers-d-requires
+numbers-d-requires c κs = search rules
 
-word-requires-2 : tie.Need-word-requires-2
-word-requires-2 c κs = search rules
+put-requires : tie.Need-put-requires
+put-requires c κs = search rules
 
-numbers-requires : tie.Need-numbers-requires
-numbers-requires c κs = search rules
-
-put_requires : tie.Need-put-requires
-put_requires c κs = search rules
-
-same_length : tie.Need-same-length
-same_length c = c.before.before.put.auto.0 ∙ c.before.before.before.before.before.before.numbers.auto.0 ∙ c.before.before.before.before.before.before.before.before.before.before.word2.auto.0 ∙ c.before.before.before.before.before.before.before.before.before.before.before.before.before.before.before.number.auto.0 ∙ c.before.before.before.before.before.before.before.before.before.before.before.before.before.before.before.before.before.before.before.word.auto.0
+shape_of-out : tie.Need-shape_of-out
+shape_of-out c = c.before.before.put.auto.out ∙ c.before.before.before.before.before.before.numbers-d.auto.out ∙ c.before.before.before.before.before.before.before.before.before.before.word-c.auto.out ∙ c.before.before.before.before.before.before.before.before.before.before.before.before.before.before.before.before.number-b.auto.out ∙ c.before.before.before.before.before.before.before.before.before.before.before.before.before.before.before.before.before.before.before.before.word-a.auto.out
 
 returns : tie.Need-returns
-returns c = row_done _ _ _ _ _ _ _ _ c.before.before.before.before.before.before.before.before.before.before.before.before.before.before.before.before.before.before.before.word.ensures c.before.before.before.before.before.before.before.before.before.before.before.before.before.before.before.number.ensures c.before.before.before.before.before.before.before.before.before.before.word2.ensures c.before.before.before.before.before.before.numbers.ensures c.before.before.put.ensures
+returns c = row_done _ _ _ _ _ _ _ _ c.before.before.before.before.before.before.before.before.before.before.before.before.before.before.before.before.before.before.before.before.word-a.ensures c.before.before.before.before.before.before.before.before.before.before.before.before.before.before.before.before.number-b.ensures c.before.before.before.before.before.before.before.before.before.before.word-c.ensures c.before.before.before.before.before.before.numbers-d.ensures c.before.before.put.ensures
 
 pub row_spec : {M : Type 1} → statement M
 row_spec =
     tie.close
     (tie.spec
-    slice-aggregate-word
-    word-requires
-    number-requires
-    slice-aggregate-word-2
-    word-requires-2
-    numbers-requires
-    put_requires
-    same_length
+    word-a-requires
+    number-b-requires
+    word-c-requires
+    numbers-d-requires
+    put-requires
+    shape_of-out
     returns)

@@ -10,14 +10,13 @@ returns c =
     let b2 = c.before.before in
     let b6 = b2.before.before.before.before in
     let b10 = b6.before.before.before.before in
-    let e = table_done _ _ _ _ _ _ b10.before.left_at.ensures b10.line.ensures b6.arrays.ensures b2.rows.ensures in
+    let e = table_done _ _ _ _ _ _ b10.before.left_at.ensures b10.line-a.ensures b6.arrays-b.ensures b2.rows.ensures in
     (e, page_used _ _ _ _ e)
 
 pub table_spec : {M : Type 1} → statement M
 table_spec =
     tie.close
     (tie.spec
-    (λ c. search rules)
     (λ c κs. search rules)
     (λ c κs. search rules)
     (λ c κs. search rules)

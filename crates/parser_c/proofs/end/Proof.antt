@@ -7,5 +7,5 @@ returns : tie.Need-returns
 unfolding covered
 returns c = search rules
 
-pub end-spec : {M : Type 1} → statement M
-end-spec = tie.close (tie.spec returns)
+pub end_spec : {M : Type 1} → statement M
+end_spec = tie.close (tie.spec returns)

@@ -8,48 +8,48 @@ use borrow.Author.Rules.{rules}
 use Rattle.parser_c.proofs.refused.Statement.{statement}
 use Rattle.parser_c.proofs.refused.Tie as tie
 
-returns : tie.Need-returns
+returns-in-TableShort : tie.Need-returns-in-TableShort
 unfolding covered
-returns c = ap (λ (e : Refusal). padded (refusal_number e ∷ [])) (sym c.enum_told.given.1)
+returns-in-TableShort c = ap (λ (e : Refusal). padded (refusal_number e ∷ [])) (sym c.in-TableShort.is)
 
-returns_2 : tie.Need-returns-2
+returns-in-SizesWrong : tie.Need-returns-in-SizesWrong
 unfolding covered
-returns_2 c = ap (λ (e : Refusal). padded (refusal_number e ∷ [])) (sym c.enum-told2.given.1)
+returns-in-SizesWrong c = ap (λ (e : Refusal). padded (refusal_number e ∷ [])) (sym c.in-SizesWrong.is)
 
-returns_3 : tie.Need-returns-3
+returns-in-ProductionWrong : tie.Need-returns-in-ProductionWrong
 unfolding covered
-returns_3 c = ap (λ (e : Refusal). padded (refusal_number e ∷ [])) (sym c.enum-told3.given.1)
+returns-in-ProductionWrong c = ap (λ (e : Refusal). padded (refusal_number e ∷ [])) (sym c.in-ProductionWrong.is)
 
-returns_4 : tie.Need-returns-4
+returns-in-CellWrong : tie.Need-returns-in-CellWrong
 unfolding covered
-returns_4 c = ap (λ (e : Refusal). padded (refusal_number e ∷ [])) (sym c.enum-told4.given.1)
+returns-in-CellWrong c = ap (λ (e : Refusal). padded (refusal_number e ∷ [])) (sym c.in-CellWrong.is)
 
-returns_5 : tie.Need-returns-5
+returns-in-EntryWrong : tie.Need-returns-in-EntryWrong
 unfolding covered
-returns_5 c = ap (λ (e : Refusal). padded (refusal_number e ∷ [])) (sym c.enum-told5.given.1)
+returns-in-EntryWrong c = ap (λ (e : Refusal). padded (refusal_number e ∷ [])) (sym c.in-EntryWrong.is)
 
-returns-6 : tie.Need-returns-6
+returns-in-InputLong : tie.Need-returns-in-InputLong
 unfolding covered
-returns-6 c = ap (λ (e : Refusal). padded (refusal_number e ∷ [])) (sym c.enum-told6.given.1)
+returns-in-InputLong c = ap (λ (e : Refusal). padded (refusal_number e ∷ [])) (sym c.in-InputLong.is)
 
-returns-7 : tie.Need-returns-7
+returns-in-TerminalWrong : tie.Need-returns-in-TerminalWrong
 unfolding covered
-returns-7 c = ap (λ (e : Refusal). padded (refusal_number e ∷ [])) (sym c.enum-told7.given.1)
+returns-in-TerminalWrong c = ap (λ (e : Refusal). padded (refusal_number e ∷ [])) (sym c.in-TerminalWrong.is)
 
-returns-8 : tie.Need-returns-8
+returns-in-NoStack : tie.Need-returns-in-NoStack
 unfolding covered
-returns-8 c = ap (λ (e : Refusal). padded (refusal_number e ∷ [])) (sym c.enum-told8.given.1)
+returns-in-NoStack c = ap (λ (e : Refusal). padded (refusal_number e ∷ [])) (sym c.in-NoStack.is)
 
-returns-9 : tie.Need-returns-9
+returns-in-SecondShort : tie.Need-returns-in-SecondShort
 unfolding covered
-returns-9 c = ap (λ (e : Refusal). padded (refusal_number e ∷ [])) (sym c.enum-told9.given.1)
+returns-in-SecondShort c = ap (λ (e : Refusal). padded (refusal_number e ∷ [])) (sym c.in-SecondShort.is)
 
-returns-10 : tie.Need-returns-10
+returns-in-ClosedWrong : tie.Need-returns-in-ClosedWrong
 unfolding covered
-returns-10 c = ap (λ (e : Refusal). padded (refusal_number e ∷ [])) (sym c.enum-told10.given.1)
+returns-in-ClosedWrong c = ap (λ (e : Refusal). padded (refusal_number e ∷ [])) (sym c.in-ClosedWrong.is)
 
-pub refused-spec : {M : Type 1} → statement M
-refused-spec =
+pub refused_spec : {M : Type 1} → statement M
+refused_spec =
     tie.close
     (tie.spec
     (λ c. search rules)
@@ -62,13 +62,13 @@ refused-spec =
     (λ c. search rules)
     (λ c. search rules)
     (λ c. search rules)
-    returns
-    returns_2
-    returns_3
-    returns_4
-    returns_5
-    returns-6
-    returns-7
-    returns-8
-    returns-9
-    returns-10)
+    returns-in-TableShort
+    returns-in-SizesWrong
+    returns-in-ProductionWrong
+    returns-in-CellWrong
+    returns-in-EntryWrong
+    returns-in-InputLong
+    returns-in-TerminalWrong
+    returns-in-NoStack
+    returns-in-SecondShort
+    returns-in-ClosedWrong)

@@ -13,31 +13,31 @@ use Rattle.parser_c.proofs.seven.Tie as tie
 for_case : {r : List ℕ} {a b : Answer} → r ≡ padded (numbers b) → a ≡ b → r ≡ padded (numbers a)
 for_case e h = e ∙ ap (λ (x : Answer). padded (numbers x)) (sym h)
 
-returns : tie.Need-returns
-returns c = for_case c.refused.ensures c.before.before.a.given.1
+returns-in-Refused : tie.Need-returns-in-Refused
+returns-in-Refused c = for_case c.refused.ensures c.before.in-Refused.is
 
-returns_2 : tie.Need-returns-2
-returns_2 c = for_case c.end.ensures c.before.before.a2.given.1
+returns-in-Accepted : tie.Need-returns-in-Accepted
+returns-in-Accepted c = for_case c.end.ensures c.before.in-Accepted.is
 
-returns_3 : tie.Need-returns-3
+returns-in-NoAction : tie.Need-returns-in-NoAction
 unfolding covered
-returns_3 c = for_case refl c.before.a3.given.1
+returns-in-NoAction c = for_case refl c.in-NoAction.is
 
-returns_4 : tie.Need-returns-4
+returns-in-ExpectedUnknown : tie.Need-returns-in-ExpectedUnknown
 unfolding covered
-returns_4 c = for_case refl c.before.a4.given.1
+returns-in-ExpectedUnknown c = for_case refl c.in-ExpectedUnknown.is
 
-returns_5 : tie.Need-returns-5
-returns_5 c = for_case c.end2.ensures c.before.before.a5.given.1
+returns-in-StepLimit : tie.Need-returns-in-StepLimit
+returns-in-StepLimit c = for_case c.end-in-StepLimit.ensures c.before.in-StepLimit.is
 
-returns-6 : tie.Need-returns-6
-returns-6 c = for_case c.end3.ensures c.before.before.a6.given.1
+returns-in-StackFull : tie.Need-returns-in-StackFull
+returns-in-StackFull c = for_case c.end-in-StackFull.ensures c.before.in-StackFull.is
 
-returns-7 : tie.Need-returns-7
-returns-7 c = for_case c.end4.ensures c.before.before.a7.given.1
+returns-in-ListFull : tie.Need-returns-in-ListFull
+returns-in-ListFull c = for_case c.end-in-ListFull.ensures c.before.in-ListFull.is
 
-returns-8 : tie.Need-returns-8
-returns-8 c = for_case c.end5.ensures c.before.before.a8.given.1
+returns-in-Broken : tie.Need-returns-in-Broken
+returns-in-Broken c = for_case c.end-in-Broken.ensures c.before.in-Broken.is
 
 pub seven_spec : {M : Type 1} → statement M
 seven_spec =
@@ -58,11 +58,11 @@ seven_spec =
     (λ c κs. search rules)
     (λ c. search rules)
     (λ c κs. search rules)
-    returns
-    returns_2
-    returns_3
-    returns_4
-    returns_5
-    returns-6
-    returns-7
-    returns-8)
+    returns-in-Refused
+    returns-in-Accepted
+    returns-in-NoAction
+    returns-in-ExpectedUnknown
+    returns-in-StepLimit
+    returns-in-StackFull
+    returns-in-ListFull
+    returns-in-Broken)

@@ -4,7 +4,7 @@ use Rattle.parser_c.proofs.sidumza_parse.Statement.{statement}
 use Rattle.parser_c.proofs.sidumza_parse.Tie as tie
 
 returns : tie.Need-returns
-returns c = rw (restricted_none _ _ _ _ _ _) at c.before.before.before.before.before.before.sidumza-parse-restricted.ensures
+returns c = rw (restricted_none _ _ _ _ _ _) at c.before.before.before.before.before.before.sidumza_parse_restricted.ensures
 
-pub sidumza-parse-spec : {M : Type 1} → statement M
-sidumza-parse-spec = tie.close (tie.spec (λ c κs. search rules) (λ c. search rules) (λ c. search rules) (λ c. search rules) returns)
+pub sidumza_parse_spec : {M : Type 1} → statement M
+sidumza_parse_spec = tie.close (tie.spec (λ c κs. search rules) (λ c. search rules) (λ c. search rules) (λ c. search rules) returns)

@@ -6,8 +6,8 @@ use Rattle.parser_c.proofs.sidumza_parse_restricted.Tie as tie
 
 returns : tie.Need-returns
 returns c =
-    let p = c.before.before.before.before.before.before.before.parse-restricted.ensures in
+    let p = c.before.before.before.before.before.before.before.parse_restricted-a.ensures in
     record { report = c.seven.ensures ∙ ap padded p.answer; stack = p.stack; list = p.list; second = p.second }
 
-pub sidumza-parse-restricted-spec : {M : Type 1} → statement M
-sidumza-parse-restricted-spec = tie.close (tie.spec (λ c κs. search rules) (λ c κs. search rules) (λ c. search rules) (λ c. search rules) (λ c. search rules) returns)
+pub sidumza_parse_restricted_spec : {M : Type 1} → statement M
+sidumza_parse_restricted_spec = tie.close (tie.spec (λ c κs. search rules) (λ c κs. search rules) (λ c. search rules) (λ c. search rules) (λ c. search rules) returns)

@@ -71,7 +71,7 @@ rows-requires c κs =
     let with_call = c.before.before.before.before.before.before.before.with in
     let s : wide32-call.result + wide-call.result ≡ start-call.result + productions-call.result = omega (arith, wide32-call.ensures, wide-call.ensures) in
     let f = added_first args.c.now productions-call.result productions-call.result start-call.result (wide32-call.result + wide-call.result) wf productions-call.ensures refl start-call.ensures s in
-    let ad : Added prepare-call.new.1.1.0 0 closure-call.result store-call.new.d = rw store-call.ensures (added prepare-call.new.1.1.0 0 closure-call.result (search rules) (omega (arith, prepare-call.ensures.0.room))) in (
+    let ad : Added prepare-call.new.z 0 closure-call.result store-call.new.d = rw store-call.ensures (added prepare-call.new.z 0 closure-call.result (search rules) (omega (arith, prepare-call.ensures.0.room))) in (
       pre.0,
       rw fill-call.auto.w pre.3,
       fill-call.ensures.0,
@@ -98,7 +98,7 @@ returns c =
     let store-call = c.before.before.before.before.before.before.before.before.before.store in
     let rows-call = c.before.before.before.before.rows in
     let fill-call = c.before.before.before.before.before.before.before.before.before.before.before.before.before.before.before.before.before.before.before.before.before.before.before.before.fill in
-    let ad : Added prepare-call.new.1.1.0 0 closure-call.result store-call.new.d = rw store-call.ensures (added prepare-call.new.1.1.0 0 closure-call.result (search rules) (omega (arith, prepare-call.ensures.0.room))) in
+    let ad : Added prepare-call.new.z 0 closure-call.result store-call.new.d = rw store-call.ensures (added prepare-call.new.z 0 closure-call.result (search rules) (omega (arith, prepare-call.ensures.0.room))) in
     built _ _ _ _ _ _ _ _ _ wf (kept_then prepare-call.ensures.1 ad.behind (omega arith)) (store-call.auto.d ∙ prepare-call.auto.z) rows-call.ensures fill-call.ensures.1
 
 pub states_spec : {M : Type 1} → statement M
