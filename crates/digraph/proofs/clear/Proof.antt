@@ -36,7 +36,7 @@ loop-i-smaller c = search rules
 loop-i-preserved : tie.Need-loop-i-preserved invariant-loop-i decreases-loop-i
 loop-i-preserved c =
     let l = c.before.loop-i in
-    (omega arith, simp length-set l.invariant.1, steps.clear-more c.before.before.args.z.now l.z l.i (omega arith) (omega arith) l.invariant.2)
+    (omega arith, simp length-set l.invariant.1, steps.clear_more c.before.before.args.z.now l.z l.i (omega arith) (omega arith) l.invariant.2)
 
 shape_of-z : tie.Need-shape_of-z invariant-loop-i decreases-loop-i
 shape_of-z c = c.before.loop-i.invariant.1

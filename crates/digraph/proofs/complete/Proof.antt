@@ -34,7 +34,7 @@ visit-requires c κs =
     let p = c.before.before.before.before.before.before.before.before.before.before.requires in
     let l = c.before.before.loop-x in
     let long : words_size ≤ length l.z = omega (arith, p.2, c.before.before.before.before.before.clear.auto.z, l.invariant.0) in
-    (steps.empty-room c.before.before.before.before.before.before.before.before.before.before.args.k l.z p.1 long, p.0, c.before.loop-x-test.true)
+    (steps.empty_room c.before.before.before.before.before.before.before.before.before.before.args.k l.z p.1 long, p.0, c.before.loop-x-test.true)
 
 overflow_add-x : tie.Need-overflow_add-x invariant-loop-x decreases-loop-x
 overflow_add-x c = omega (arith, c.before.before.before.before.before.before.before.before.before.before.before.before.before.requires.1, c.before.before.before.before.loop-x-test.true)
@@ -49,7 +49,7 @@ loop-x-preserved c =
     let l = c.before.before.before.before.before.loop-x in
     let i = l.invariant in
     let v = c.before.before.visit in
-    let z = v.new.1.1.1.0 in
+    let z = v.new.z in
     let s = v.ensures in
     let t = c.before.before.before.before.loop-x-test.true in (
       v.auto.z ∙ i.0,

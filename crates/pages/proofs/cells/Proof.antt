@@ -9,30 +9,30 @@ use Rattle.pages.proofs.Writing.{Celled, wrote_none, cells_next, cells_all}
 use Rattle.pages.proofs.cells.Statement.{statement}
 use Rattle.pages.proofs.cells.Tie as tie
 
-abbrev invariant_loop : tie.invariant-loop
-invariant_loop out₀ used t from count n₀ i₀ out n i = Celled t from count (page_of out₀ used) (length out₀) out n i
+abbrev invariant-loop-i : tie.invariant-loop-i
+invariant-loop-i out₀ used t from count n₀ i₀ out n i = Celled t from count (page_of out₀ used) (length out₀) out n i
 
-abbrev decreases_loop : tie.decreases-loop
-decreases_loop out₀ used t from count n₀ i₀ out n i = count - i
+abbrev decreases-loop-i : tie.decreases-loop-i
+decreases-loop-i out₀ used t from count n₀ i₀ out n i = count - i
 
-loop_again : tie.Need-loop-preserved invariant_loop decreases_loop
-loop_again c =
+loop-i-preserved : tie.Need-loop-i-preserved invariant-loop-i decreases-loop-i
+loop-i-preserved c =
     let b2 = c.before.before in
     let b5 = b2.before.before.before in
-    cells_next b5.before.loop.invariant b5.loop-test.true _ _ _ b2.before.at.ensures b2.right.ensures b2.right.auto.0
+    cells_next b5.before.loop-i.invariant b5.loop-i-test.true _ _ _ b2.before.at.ensures b2.right-n.ensures b2.right-n.auto.out
 
-pub cells-spec : {M : Type 1} → statement M
-cells-spec =
+pub cells_spec : {M : Type 1} → statement M
+cells_spec =
     tie.close
     (tie.spec
-    invariant_loop
-    decreases_loop
+    invariant-loop-i
+    decreases-loop-i
     (λ c. record { wrote = wrote_none _ _ _; wide = refl; below = omega arith })
     (λ c. omega arith)
     (λ c κs. search rules)
     (λ c κs. search rules)
     (λ c. omega arith)
     (λ c. omega arith)
-    loop_again
-    (λ c. c.before.loop.invariant.wrote.kept)
-    (λ c. cells_all c.before.loop.invariant c.loop-test.false))
+    loop-i-preserved
+    (λ c. c.before.loop-i.invariant.wrote.kept)
+    (λ c. cells_all c.before.loop-i.invariant c.loop-i-test.false))

@@ -8,17 +8,17 @@ use Rattle.pages.proofs.Writing.{one_digit, one_less}
 use Rattle.pages.proofs.digits.Statement.{statement}
 use Rattle.pages.proofs.digits.Tie as tie
 
-abbrev invariant_loop : tie.invariant-loop
-invariant_loop x n₀ y₀ n y = (n + length (decimal_of y) ≡ 1 + length (decimal_of x)) × (n + y ≤ 1 + x)
+abbrev invariant-loop-y : tie.invariant-loop-y
+invariant-loop-y x n₀ y₀ n y = (n + length (decimal_of y) ≡ 1 + length (decimal_of x)) × (n + y ≤ 1 + x)
 
-abbrev decreases_loop : tie.decreases-loop
-decreases_loop x n₀ y₀ n y = y
+abbrev decreases-loop-y : tie.decreases-loop-y
+decreases-loop-y x n₀ y₀ n y = y
 
-loop_again : tie.Need-loop-preserved invariant_loop decreases_loop
-loop_again c = (omega (arith, c.before.loop.invariant.0, one_less _ c.loop-test.true), omega (arith, c.before.loop.invariant.1))
+loop-y-preserved : tie.Need-loop-y-preserved invariant-loop-y decreases-loop-y
+loop-y-preserved c = (omega (arith, c.before.loop-y.invariant.0, one_less _ c.loop-y-test.true), omega (arith, c.before.loop-y.invariant.1))
 
-returns : tie.Need-returns invariant_loop decreases_loop
-returns c = omega (arith, c.before.loop.invariant.0, one_digit _ c.loop-test.false)
+returns : tie.Need-returns invariant-loop-y decreases-loop-y
+returns c = omega (arith, c.before.loop-y.invariant.0, one_digit _ c.loop-y-test.false)
 
-pub digits-spec : {M : Type 1} → statement M
-digits-spec = tie.close (tie.spec invariant_loop decreases_loop (λ c. (refl, omega arith)) (λ c. omega arith) (λ c. omega arith) loop_again returns)
+pub digits_spec : {M : Type 1} → statement M
+digits_spec = tie.close (tie.spec invariant-loop-y decreases-loop-y (λ c. (refl, omega arith)) (λ c. omega arith) (λ c. omega arith) loop-y-preserved returns)

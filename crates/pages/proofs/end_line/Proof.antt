@@ -8,7 +8,7 @@ returns : tie.Need-returns
 returns c =
     let b2 = c.before.before in
     let b6 = b2.before.before.before.before in
-    end_done _ _ _ _ _ b6.before.missing.ensures b6.spaces.ensures b2.put.ensures
+    end_done _ _ _ _ _ b6.before.missing.ensures b6.spaces-n.ensures b2.put.ensures
 
-pub end-line-spec : {M : Type 1} → statement M
-end-line-spec = tie.close (tie.spec (λ c κs. search rules) (λ c κs. search rules) (λ c κs. search rules) (λ c. search rules) returns)
+pub end_line_spec : {M : Type 1} → statement M
+end_line_spec = tie.close (tie.spec (λ c κs. search rules) (λ c κs. search rules) (λ c κs. search rules) (λ c. search rules) returns)

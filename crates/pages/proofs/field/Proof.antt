@@ -8,7 +8,7 @@ returns : tie.Need-returns
 returns c =
     let b2 = c.before.before in
     let b6 = b2.before.before.before.before in
-    wrote_three _ _ _ _ _ _ _ b6.before.before.before.before.spaces.ensures b6.number.ensures b2.spaces2.ensures
+    wrote_three _ _ _ _ _ _ _ b6.before.before.before.before.spaces-a.ensures b6.number-b.ensures b2.spaces.ensures
 
-pub field-spec : {M : Type 1} → statement M
-field-spec = tie.close (tie.spec (λ c κs. search rules) (λ c κs. search rules) (λ c κs. search rules) (λ c. search rules) returns)
+pub field_spec : {M : Type 1} → statement M
+field_spec = tie.close (tie.spec (λ c κs. search rules) (λ c κs. search rules) (λ c κs. search rules) (λ c. search rules) returns)

@@ -8,10 +8,10 @@ returns : tie.Need-returns
 returns c =
     let b2 = c.before.before in
     let b6 = b2.before.before.before.before in
-    line_done _ _ _ _ _ _ _ _ _ b6.start-line.ensures.0 b6.start-line.ensures.1 b2.close-line.ensures b6.before.before.opened.ensures.0
+    line_done _ _ _ _ _ _ _ _ _ b6.start_line-n.ensures.0 b6.start_line-n.ensures.1 b2.close_line.ensures b6.before.before.opened.ensures.0
 
-pub line-spec : {M : Type 1} → statement M
-line-spec =
+pub line_spec : {M : Type 1} → statement M
+line_spec =
     tie.close
     (tie.spec
     (λ c κs. search rules)

@@ -9,20 +9,20 @@ use Rattle.pages.proofs.Writing.{few_digits, opened_state, opened_blank}
 use Rattle.pages.proofs.opened.Statement.{statement}
 use Rattle.pages.proofs.opened.Tie as tie
 
-returns : tie.Need-returns
-returns c = (sym (opened_blank c.before.args.q _ c.if1.true), omega arith)
+returns-then-i-gt0 : tie.Need-returns-then-i-gt0
+returns-then-i-gt0 c = (sym (opened_blank c.before.args.q _ c.if-i-gt0.true), omega arith)
 
-returns_2 : tie.Need-returns-2
-returns_2 c =
+returns-then-n-gt4 : tie.Need-returns-then-n-gt4
+returns-then-n-gt4 c =
     let b1 = c.before in
     let b3 = b1.before.before in
     let few : length (decimal_of b3.args.q) ≤ 20 = few_digits b3.args.q (omega (arith, b3.ranges.q)) in
-    (omega (arith, c.if2.true, opened_state b3.args.q _ _ b1.before.if1.false b1.digits.ensures), omega (arith, few, b1.digits.ensures))
+    (omega (arith, c.if-n-gt4.true, opened_state b3.args.q _ _ b1.before.if-i-gt0.false b1.digits-n.ensures), omega (arith, few, b1.digits-n.ensures))
 
-returns_3 : tie.Need-returns-3
-returns_3 c =
+returns-else-n-gt4 : tie.Need-returns-else-n-gt4
+returns-else-n-gt4 c =
     let b1 = c.before in
-    (omega (arith, c.if2.false, opened_state b1.before.before.args.q _ _ b1.before.if1.false b1.digits.ensures), omega arith)
+    (omega (arith, c.if-n-gt4.false, opened_state b1.before.before.args.q _ _ b1.before.if-i-gt0.false b1.digits-n.ensures), omega arith)
 
-pub opened-spec : {M : Type 1} → statement M
-opened-spec = tie.close (tie.spec returns (λ c κs. search rules) returns_2 returns_3)
+pub opened_spec : {M : Type 1} → statement M
+opened_spec = tie.close (tie.spec returns-then-i-gt0 (λ c κs. search rules) returns-then-n-gt4 returns-else-n-gt4)

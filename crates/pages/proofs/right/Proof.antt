@@ -8,7 +8,7 @@ returns : tie.Need-returns
 returns c =
     let b2 = c.before.before in
     let b4 = b2.before.before in
-    right_done _ _ _ _ _ _ b4.before.digits.ensures b4.missing.ensures b2.field.ensures
+    right_done _ _ _ _ _ _ b4.before.digits.ensures b4.missing-gap.ensures b2.field.ensures
 
-pub right-spec : {M : Type 1} → statement M
-right-spec = tie.close (tie.spec (λ c κs. search rules) (λ c κs. search rules) (λ c κs. search rules) (λ c. search rules) returns)
+pub right_spec : {M : Type 1} → statement M
+right_spec = tie.close (tie.spec (λ c κs. search rules) (λ c κs. search rules) (λ c κs. search rules) (λ c. search rules) returns)

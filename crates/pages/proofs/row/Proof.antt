@@ -9,39 +9,39 @@ use Rattle.pages.proofs.Writing.{Wrote, wrote_none, wrote_part, wrote_all}
 use Rattle.pages.proofs.row.Statement.{statement}
 use Rattle.pages.proofs.row.Tie as tie
 
-abbrev invariant_loop : tie.invariant-loop
-invariant_loop out₀ used t q from w lines n₀ i₀ out n i = Wrote (page_of out₀ used) (λ k. line_from t q k (from + 11 * k) (cells_on w k)) (length out₀) out n i × (i ≤ lines)
+abbrev invariant-loop-i : tie.invariant-loop-i
+invariant-loop-i out₀ used t q from w lines n₀ i₀ out n i = Wrote (page_of out₀ used) (λ k. line_from t q k (from + 11 * k) (cells_on w k)) (length out₀) out n i × (i ≤ lines)
 
-abbrev decreases_loop : tie.decreases-loop
-decreases_loop out₀ used t q from w lines n₀ i₀ out n i = lines - i
+abbrev decreases-loop-i : tie.decreases-loop-i
+decreases-loop-i out₀ used t q from w lines n₀ i₀ out n i = lines - i
 
-line-requires : tie.Need-line-requires invariant_loop decreases_loop
-line-requires c κs = (omega (arith, c.count-on.ensures, c.before.before.loop-test.true), omega (arith, c.count-on.ensures))
+line-n-requires : tie.Need-line-n-requires invariant-loop-i decreases-loop-i
+line-n-requires c κs = (omega (arith, c.count_on.ensures, c.before.before.loop-i-test.true), omega (arith, c.count_on.ensures))
 
-loop_again : tie.Need-loop-preserved invariant_loop decreases_loop
-loop_again c =
+loop-i-preserved : tie.Need-loop-i-preserved invariant-loop-i decreases-loop-i
+loop-i-preserved c =
     let b2 = c.before.before in
     let b6 = b2.before.before.before.before in
-    (wrote_part b6.loop.invariant.0 _ _ (rw b2.before.count-on.ensures at b2.line.ensures) b2.line.auto.0, omega arith)
+    (wrote_part b6.loop-i.invariant.0 _ _ (rw b2.before.count_on.ensures at b2.line-n.ensures) b2.line-n.auto.out, omega arith)
 
-returns : tie.Need-returns invariant_loop decreases_loop
+returns : tie.Need-returns invariant-loop-i decreases-loop-i
 unfolding row_from
-returns c = let b1 = c.before in rw (← b1.before.row-lines.ensures) (wrote_all b1.loop.invariant.0 b1.loop.invariant.1 c.loop-test.false)
+returns c = let b1 = c.before in rw (← b1.before.row_lines-lines.ensures) (wrote_all b1.loop-i.invariant.0 b1.loop-i.invariant.1 c.loop-i-test.false)
 
-pub row-spec : {M : Type 1} → statement M
-row-spec =
+pub row_spec : {M : Type 1} → statement M
+row_spec =
     tie.close
     (tie.spec
-    invariant_loop
-    decreases_loop
+    invariant-loop-i
+    decreases-loop-i
     (λ c κs. omega arith)
     (λ c. (wrote_none _ _ _, omega arith))
     (λ c. omega arith)
     (λ c. omega arith)
     (λ c κs. omega arith)
-    line-requires
+    line-n-requires
     (λ c. omega arith)
     (λ c. omega arith)
-    loop_again
-    (λ c. c.before.loop.invariant.0.kept)
+    loop-i-preserved
+    (λ c. c.before.loop-i.invariant.0.kept)
     returns)

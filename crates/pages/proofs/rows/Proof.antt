@@ -9,38 +9,38 @@ use Rattle.pages.proofs.Writing.{Going, rows_start, rows_next, rows_all}
 use Rattle.pages.proofs.rows.Statement.{statement}
 use Rattle.pages.proofs.rows.Tie as tie
 
-abbrev invariant_loop : tie.invariant-loop
-invariant_loop out₀ used t count w from₀ n₀ q₀ out from n q = Going t count w (page_of out₀ used) (length out₀) out from n q
+abbrev invariant-loop-q : tie.invariant-loop-q
+invariant-loop-q out₀ used t count w from₀ n₀ q₀ out from n q = Going t count w (page_of out₀ used) (length out₀) out from n q
 
-abbrev decreases_loop : tie.decreases-loop
-decreases_loop out₀ used t count w from₀ n₀ q₀ out from n q = count - q
+abbrev decreases-loop-q : tie.decreases-loop-q
+decreases-loop-q out₀ used t count w from₀ n₀ q₀ out from n q = count - q
 
-loop_holds : tie.Need-loop-init invariant_loop decreases_loop
-loop_holds c =
+loop-q-init : tie.Need-loop-q-init invariant-loop-q decreases-loop-q
+loop-q-init c =
     let b1 = c.before in
-    rows_start (placed_start _ _ _ _ _ b1.before.before.at.ensures b1.before.row-width.ensures b1.at2.ensures c.cells_at.ensures) _ _
+    rows_start (placed_start _ _ _ _ _ b1.before.before.at-count.ensures b1.before.row_width-w.ensures b1.at.ensures c.cells_at-from.ensures) _ _
 
-loop_again : tie.Need-loop-preserved invariant_loop decreases_loop
-loop_again c =
+loop-q-preserved : tie.Need-loop-q-preserved invariant-loop-q decreases-loop-q
+loop-q-preserved c =
     let b2 = c.before.before in
     let b4 = b2.before.before in
-    rows_next b4.before.loop.invariant b4.loop-test.true _ _ b2.row.ensures b2.row.auto.0
+    rows_next b4.before.loop-q.invariant b4.loop-q-test.true _ _ b2.row-n.ensures b2.row-n.auto.out
 
-pub rows-spec : {M : Type 1} → statement M
-rows-spec =
+pub rows_spec : {M : Type 1} → statement M
+rows_spec =
     tie.close
     (tie.spec
-    invariant_loop
-    decreases_loop
+    invariant-loop-q
+    decreases-loop-q
     (λ c κs. search rules)
     (λ c κs. search rules)
     (λ c κs. search rules)
     (λ c κs. search rules)
-    loop_holds
+    loop-q-init
     (λ c κs. omega arith)
     (λ c. omega arith)
     (λ c. omega arith)
     (λ c. omega arith)
-    loop_again
-    (λ c. c.before.loop.invariant.wrote.kept)
-    (λ c. rows_all c.before.loop.invariant c.loop-test.false))
+    loop-q-preserved
+    (λ c. c.before.loop-q.invariant.wrote.kept)
+    (λ c. rows_all c.before.loop-q.invariant c.loop-q-test.false))

@@ -8,30 +8,30 @@ use Rattle.pages.proofs.Writing.{Wrote, wrote_none, wrote_part, blank, blank_nex
 use Rattle.pages.proofs.spaces.Statement.{statement}
 use Rattle.pages.proofs.spaces.Tie as tie
 
-abbrev invariant_loop : tie.invariant-loop
-invariant_loop out₀ used count n₀ i₀ out n i = Wrote (page_of out₀ used) blank (length out₀) out n i × (i ≤ count)
+abbrev invariant-loop-i : tie.invariant-loop-i
+invariant-loop-i out₀ used count n₀ i₀ out n i = Wrote (page_of out₀ used) blank (length out₀) out n i × (i ≤ count)
 
-abbrev decreases_loop : tie.decreases-loop
-decreases_loop out₀ used count n₀ i₀ out n i = count - i
+abbrev decreases-loop-i : tie.decreases-loop-i
+decreases-loop-i out₀ used count n₀ i₀ out n i = count - i
 
-loop_again : tie.Need-loop-preserved invariant_loop decreases_loop
-loop_again c =
+loop-i-preserved : tie.Need-loop-i-preserved invariant-loop-i decreases-loop-i
+loop-i-preserved c =
     let b2 = c.before.before in
-    (wrote_part b2.before.before.before.loop.invariant.0 _ _ (blank_next _ _ b2.put.ensures) b2.put.auto.0, omega arith)
+    (wrote_part b2.before.before.before.loop-i.invariant.0 _ _ (blank_next _ _ b2.put-n.ensures) b2.put-n.auto.out, omega arith)
 
-returns : tie.Need-returns invariant_loop decreases_loop
-returns c = blanks_all c.before.loop.invariant.0 c.before.loop.invariant.1 c.loop-test.false
+returns : tie.Need-returns invariant-loop-i decreases-loop-i
+returns c = blanks_all c.before.loop-i.invariant.0 c.before.loop-i.invariant.1 c.loop-i-test.false
 
-pub spaces-spec : {M : Type 1} → statement M
-spaces-spec =
+pub spaces_spec : {M : Type 1} → statement M
+spaces_spec =
     tie.close
     (tie.spec
-    invariant_loop
-    decreases_loop
+    invariant-loop-i
+    decreases-loop-i
     (λ c. (wrote_none _ _ _, omega arith))
     (λ c κs. search rules)
     (λ c. omega arith)
     (λ c. omega arith)
-    loop_again
-    (λ c. c.before.loop.invariant.0.kept)
+    loop-i-preserved
+    (λ c. c.before.loop-i.invariant.0.kept)
     returns)

@@ -7,7 +7,7 @@ use Rattle.pages.proofs.start_line.Tie as tie
 returns : tie.Need-returns
 returns c =
     let b2 = c.before.before in
-    (wrote_joined _ _ _ _ _ b2.before.before.before.before.open-line.ensures b2.cells.ensures.0, b2.cells.ensures.1)
+    (wrote_joined _ _ _ _ _ b2.before.before.before.before.open_line-n.ensures b2.cells.ensures.0, b2.cells.ensures.1)
 
-pub start-line-spec : {M : Type 1} → statement M
-start-line-spec = tie.close (tie.spec (λ c κs. search rules) (λ c κs. search rules) (λ c. search rules) returns)
+pub start_line_spec : {M : Type 1} → statement M
+start_line_spec = tie.close (tie.spec (λ c κs. search rules) (λ c κs. search rules) (λ c. search rules) returns)
