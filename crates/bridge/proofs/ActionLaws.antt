@@ -25,7 +25,7 @@ use Rattle.bridge.proofs.FollowLaws.{look_is}
 module _ {c : List ℕ} {n : ℕ} {next : ℕ → ℕ → ℕ} (s : Stated c n next) where
   -- the added production is complete in the state behind the start alone, before the end marker
 
-  added_path : {γ : List ℕ} {r d : ℕ} → Origin (grammar_of c) r d γ → r ≡ productions c → γ ≡ take d (right_of c r)
+  added_path : {r d : ℕ} {γ : List ℕ} → Origin (grammar_of c) r d γ → r ≡ productions c → γ ≡ take d (right_of c r)
   added_path (added e) _ = refl
   added_path (inner α h k i) e = absurd (omega arith)
 

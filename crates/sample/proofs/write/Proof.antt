@@ -20,19 +20,19 @@ module _ (c : tie.At-loop invariant_loop decreases_loop) where
   args = c.before
 
   long : length c.loop.area ≡ length c.before.args.area.now
-  long = ap length c.loop.invariant.0 ∙ copied_long _ _ args.pre.0 args.pre.1 c.loop.i c.loop.invariant.1
+  long = ap length c.loop.invariant.0 ∙ copied_long _ _ args.requires.0 args.requires.1 c.loop.i c.loop.invariant.1
 
 loop_again : tie.Need-loop-preserved invariant_loop decreases_loop
 loop_again c =
     let l = c.before.before in
     let s = args l in
-    (ap (λ (a : List ℕ). set a l.loop.i (get_or s.args.row.now l.loop.i 0)) l.loop.invariant.0 ∙ copied_more _ _ s.pre.0 s.pre.1 l.loop.i c.before.loop-test.true, omega (arith, c.before.loop-test.true))
+    (ap (λ (a : List ℕ). set a l.loop.i (get_or s.args.row.now l.loop.i 0)) l.loop.invariant.0 ∙ copied_more _ _ s.requires.0 s.requires.1 l.loop.i c.before.loop-test.true, omega (arith, c.before.loop-test.true))
 
 returns : tie.Need-returns invariant_loop decreases_loop
 returns c =
     let l = c.before in
     let s = args l in
-    l.loop.invariant.0 ∙ copied_all _ _ s.pre.0 s.pre.1 l.loop.i (omega (arith, l.loop.invariant.1, c.loop-test.false))
+    l.loop.invariant.0 ∙ copied_all _ _ s.requires.0 s.requires.1 l.loop.i (omega (arith, l.loop.invariant.1, c.loop-test.false))
 
 pub write_spec : {M : Type 1} → statement M
 write_spec =
@@ -42,7 +42,7 @@ write_spec =
     decreases_loop
     (λ c. (refl, zero-le))
     (λ c. omega (arith, c.loop-test.true))
-    (λ c. omega (arith, c.before.loop-test.true, long c.before.before, (args c.before.before).pre.1))
+    (λ c. omega (arith, c.before.loop-test.true, long c.before.before, (args c.before.before).requires.1))
     (λ c. omega (arith, c.before.loop-test.true))
     (λ c. omega (arith, c.before.loop-test.true))
     loop_again

@@ -35,10 +35,10 @@ append_spec =
     invariant-loop-i
     decreases-loop-i
     loop-i-init
-    (λ c. omega (arith, below c))
     (λ c. omega (arith, below c.before))
-    (λ c. omega (arith, below c.before))
-    (λ c. omega (arith, below c.before))
+    (λ c. omega (arith, below c.before.before))
+    (λ c. omega (arith, below c.before.before.before))
+    (λ c. omega (arith, below c.before.before.before))
     (λ c. omega (arith, c.before.before.before.loop-i-test.true))
     loop-i-preserved
     returns)

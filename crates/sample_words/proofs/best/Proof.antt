@@ -30,7 +30,7 @@ module _ (c : tie.In-loop-d invariant-loop-d decreases-loop-d) where
   below = omega (arith, c.loop-d-test.true, c.before.before.length-n.ensures)
 
   place : start_of c.before.before.before.before.args.c.now c.before.before.before.before.args.r + c.before.loop-d.d < 512
-  place = right_place _ start.pre.0 _ _ start.pre.1 below
+  place = right_place _ start.requires.0 _ _ start.requires.1 below
 
 -- with its symbol
 module _ (c : tie.After-symbol-x invariant-loop-d decreases-loop-d) where
@@ -42,11 +42,11 @@ module _ (c : tie.After-symbol-x invariant-loop-d decreases-loop-d) where
 
   symbol_is : c.symbol-x.result ≡ symbol_at (start c.before.before).args.c.now (start c.before.before).args.r c.before.before.before.loop-d.d
   symbol_is =
-      let i : (start turn).args.s + c.before.wider.result ≡ start_of card (start turn).args.r + turn.before.loop.d = omega (arith, (start turn).pre.2, c.before.wider.ensures) in
+      let i : (start turn).args.s + c.before.wider.result ≡ start_of card (start turn).args.r + turn.before.loop-d.d = omega (arith, (start turn).requires.2, c.before.wider.ensures) in
       c.symbol-x.ensures ∙ ap (symbol_of card) i
 
   inside : c.symbol-x.result < terminals (start c.before.before).args.c.now + nonterminals (start c.before.before).args.c.now
-  inside = rw symbol_is (right_symbol _ (start turn).pre.0 _ _ (start turn).pre.1 (below turn))
+  inside = rw symbol_is (right_symbol _ (start turn).requires.0 _ _ (start turn).requires.1 (below turn))
 
 overflow_add-s : tie.Need-overflow_add-s invariant-loop-d decreases-loop-d
 overflow_add-s c =
@@ -56,25 +56,25 @@ overflow_add-s c =
 count-requires : tie.Need-count-requires invariant-loop-d decreases-loop-d
 count-requires c κs =
     let s = start (turn c) in
-    (s.pre.0, inside c, s.pre.3)
+    (s.requires.0, inside c, s.requires.3)
 
 module _ (c : tie.After-count invariant-loop-d decreases-loop-d) where
   abbrev at : tie.At-loop-d invariant-loop-d decreases-loop-d
   at = (turn c.before).before
 
 overflow_add-here : tie.Need-overflow_add-here invariant-loop-d decreases-loop-d
-overflow_add-here c = omega (arith, c.count.ensures.1, (at c).loop.invariant.0.plain_most, place (turn c.before))
+overflow_add-here c = omega (arith, c.count.ensures.1, (at c).loop-d.invariant.0.plain_most, place (turn c.before))
 
 count-m-requires : tie.Need-count-m-requires invariant-loop-d decreases-loop-d
 count-m-requires c κs =
     let s = start (turn c.before) in
-    (s.pre.0, inside c.before, s.pre.3)
+    (s.requires.0, inside c.before, s.requires.3)
 
 overflow_add-plain : tie.Need-overflow_add-plain invariant-loop-d decreases-loop-d
-overflow_add-plain c = omega (arith, c.count-m.ensures.1, (at c.before).loop.invariant.0.plain_most, place (turn c.before.before))
+overflow_add-plain c = omega (arith, c.count-m.ensures.1, (at c.before).loop-d.invariant.0.plain_most, place (turn c.before.before))
 
 overflow_add-used : tie.Need-overflow_add-used invariant-loop-d decreases-loop-d
-overflow_add-used c = omega (arith, c.count-m.ensures.1, (at c.before).loop.invariant.0.used_most, place (turn c.before.before))
+overflow_add-used c = omega (arith, c.count-m.ensures.1, (at c.before).loop-d.invariant.0.used_most, place (turn c.before.before))
 
 module _ (c : tie.After-count-m invariant-loop-d decreases-loop-d) where
   abbrev symbol : tie.After-symbol-x invariant-loop-d decreases-loop-d
@@ -84,20 +84,20 @@ module _ (c : tie.After-count-m invariant-loop-d decreases-loop-d) where
   args = start (turn symbol)
 
   counts : (u : Bool) (v : ℕ) → v ≡ count_of (start (turn c.before.before)).args.c.now (start (turn c.before.before)).args.e.now u c.before.before.symbol-x.result
-      → v ≡ count_of (start (turn c.before.before)).args.c.now (start (turn c.before.before)).args.e.now u (symbol_at (start (turn c.before.before)).args.c.now (start (turn c.before.before)).args.r (at c.before).loop.d)
+      → v ≡ count_of (start (turn c.before.before)).args.c.now (start (turn c.before.before)).args.e.now u (symbol_at (start (turn c.before.before)).args.c.now (start (turn c.before.before)).args.r (at c.before).loop-d.d)
   counts u v e = e ∙ ap (count_of args.args.c.now args.args.e.now u) (symbol_is symbol)
 
 loop-d-preserved : tie.Need-loop-d-preserved invariant-loop-d decreases-loop-d
 loop-d-preserved c =
     let k = c.before in
-    let going = (at k.before).loop.invariant.0 in
+    let going = (at k.before).loop-d.invariant.0 in
     let t = counts k true k.before.count.result k.before.count.ensures.0 in
     let m = counts k false k.count-m.result k.count-m.ensures.0 in (
       ⊎_elim
-          (λ w. rw (w.1, w.2) (going_here _ _ _ going _ _ t m k.count-m.ensures.1 w.0.taken))
-          (λ w. rw (w.1, w.2) (going_before _ _ _ going _ _ t m k.count-m.ensures.1 w.0.left))
-          c.if-here-used.branch,
-      omega (arith, (turn k.before.before).loop-test.taken),
+          (λ w. rw (w.used-is, w.place-is) (going_here _ _ _ going _ _ t m k.count-m.ensures.1 w.if-here-used.true))
+          (λ w. rw (w.used-is, w.place-is) (going_before _ _ _ going _ _ t m k.count-m.ensures.1 w.if-here-used.false))
+          c.if-here-used.branch-raw,
+      omega (arith, (turn k.before.before).loop-d-test.true),
     )
 
 -- after the last turn
@@ -135,7 +135,7 @@ best_spec =
     overflow_add-plain
     overflow_add-used
     (λ c. omega (arith, c.before.before.before.before.before.loop-d-test.true))
-    (λ c. omega (arith, c.before.before.before.before.before.loop-test.true))
+    (λ c. omega (arith, c.before.before.before.before.before.loop-d-test.true))
     loop-d-preserved
     returns-then-u
     returns)

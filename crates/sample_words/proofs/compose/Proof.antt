@@ -29,7 +29,7 @@ module _ (c : tie.After-b-1 invariant-loop-d decreases-loop-d) where
   loop = c.before.before
 
   below : c.before.before.loop-d.d < length_of c.before.before.before.before.before.args.c.now c.before.before.before.before.before.args.r
-  below = omega (arith, c.before.loop-d-test.true, loop.before.length.ensures)
+  below = omega (arith, c.before.loop-d-test.true, loop.before.length-n.ensures)
 
 overflow_add-s : tie.Need-overflow_add-s invariant-loop-d decreases-loop-d
 overflow_add-s c =
@@ -41,23 +41,23 @@ module _ (c : tie.After-symbol invariant-loop-d decreases-loop-d) where
   abbrev turn : tie.After-b-1 invariant-loop-d decreases-loop-d
   turn = c.before.before
 
-  symbol_is : c.symbol.result ≡ symbol_at (start c.before.before).args.c.now (start c.before.before).args.r (loop c.before.before).loop.d
+  symbol_is : c.symbol.result ≡ symbol_at (start c.before.before).args.c.now (start c.before.before).args.r (loop c.before.before).loop-d.d
   symbol_is =
-      let i : (start turn).args.s + c.before.wider.result ≡ start_of (start turn).args.c.now (start turn).args.r + (loop turn).loop.d = omega (arith, (start turn).pre.2, c.before.wider.ensures) in
+      let i : (start turn).args.s + c.before.wider.result ≡ start_of (start turn).args.c.now (start turn).args.r + (loop turn).loop-d.d = omega (arith, (start turn).requires.2, c.before.wider.ensures) in
       c.symbol.ensures ∙ ap (symbol_of (start turn).args.c.now) i
 
 put-m-requires : tie.Need-put-m-requires invariant-loop-d decreases-loop-d
 put-m-requires c κs =
     let s = start (turn c) in
     let t = turn c in
-    (s.pre.0, rw (symbol_is c) (right_symbol _ s.pre.0 _ _ s.pre.1 (below t)), rw (symbol_is c) (omega (arith, (loop t).loop.inv.0.sum, room_at _ _ s.args.w.now s.pre.0 s.pre.5 _ _ s.pre.1 _ (below t) s.pre.3)), s.pre.5)
+    (s.requires.0, rw (symbol_is c) (right_symbol _ s.requires.0 _ _ s.requires.1 (below t)), rw (symbol_is c) (omega (arith, (loop t).loop-d.invariant.0.sum, room_at _ _ s.args.w.now s.requires.0 s.requires.5 _ _ s.requires.1 _ (below t) s.requires.3)), s.requires.5)
 
 loop-d-preserved : tie.Need-loop-d-preserved invariant-loop-d decreases-loop-d
 loop-d-preserved c =
     let k = c.before in
     let t = turn k in
     let s = start t in
-    (composing_more _ _ _ s.pre.0 s.pre.5 _ _ s.pre.1 _ (below t) s.pre.3 (rw (symbol_is k) at c.put-m.ensures.0) (λ v l e. rw (symbol_is k) at (c.put-m.ensures.1 v l e)) (loop t).loop.inv.0, omega (arith, t.before.loop-test.taken))
+    (composing_more _ _ _ s.requires.0 s.requires.5 _ _ s.requires.1 _ (below t) s.requires.3 (rw (symbol_is k) at c.put-m.ensures.0) (λ v l e. rw (symbol_is k) at (c.put-m.ensures.1 v l e)) (loop t).loop-d.invariant.0, omega (arith, t.before.loop-d-test.true))
 
 returns : tie.Need-returns invariant-loop-d decreases-loop-d
 returns c =
@@ -76,7 +76,7 @@ compose_spec =
     overflow_add-s
     (λ c κs. search rules)
     put-m-requires
-    (λ c. omega (arith, (turn c.before).before.loop-test.taken))
-    (λ c. omega (arith, (turn c.before).before.loop-test.taken))
+    (λ c. omega (arith, (turn c.before).before.loop-d-test.true))
+    (λ c. omega (arith, (turn c.before).before.loop-d-test.true))
     loop-d-preserved
     returns)

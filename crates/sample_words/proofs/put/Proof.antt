@@ -27,11 +27,11 @@ module _ (c : tie.After-key) where
   first = c.before.before.before.before
 
   nonterminal : terminals c.before.before.before.before.before.before.args.c.now ≤ c.before.before.before.before.before.before.args.x
-  nonterminal = omega (arith, c.before.before.before.if-t-x.true, first.terminals.ensures)
+  nonterminal = omega (arith, c.before.before.before.if-t-x.true, first.terminals-t.ensures)
 
   key_is : c.key.result ≡ key_of c.before.before.before.before.before.before.args.u (c.before.before.before.before.before.before.args.x - terminals c.before.before.before.before.before.before.args.c.now)
   key_is =
-      let j : c.before.wide.result ≡ start.args.x - terminals start.args.c.now = omega (arith, c.before.wide.ensures, first.terminals.ensures) in
+      let j : c.before.wide.result ≡ start.args.x - terminals start.args.c.now = omega (arith, c.before.wide.ensures, first.terminals-t.ensures) in
       c.key.ensures.0 ∙ ap (key_of start.args.u) j
 
   length_is : get_or c.before.before.before.before.before.before.args.e.now c.key.result 0 ≡ count_of c.before.before.before.before.before.before.args.c.now c.before.before.before.before.before.before.args.e.now c.before.before.before.before.before.before.args.u c.before.before.before.before.before.before.args.x
@@ -57,13 +57,14 @@ module _ (c : tie.Else-t-x) where
   terminal = omega (arith, c.if-t-x.false, c.before.terminals-t.ensures)
 
   counts_one : 1 ≡ count_of c.before.before.before.args.c.now c.before.before.before.args.e.now c.before.before.before.args.u c.before.before.before.args.x
-  counts_one = one_long _ _ _ _ terminal (omega (arith, begin.pre.2))
+  counts_one = one_long _ _ _ _ terminal (omega (arith, begin.requires.2))
 
 returns : tie.Need-returns
 returns c =
-    let a = (begin c).args in (
-      omega (arith, counts_one c),
-      λ v l e. rw (piece_terminal a.c.now a.e.now a.w.now a.u a.x (terminal c)) (one_more v a.x (omega (arith, counts_one c, (begin c).requires.2)) l e),
+    let e = c.before in
+    let a = (begin e).args in (
+      omega (arith, counts_one e),
+      λ v l h. rw (piece_terminal a.c.now a.e.now a.w.now a.u a.x (terminal e)) (one_more v a.x (omega (arith, counts_one e, (begin e).requires.2)) l h),
     )
 
 pub put_spec : {M : Type 1} → statement M
@@ -76,6 +77,6 @@ put_spec =
     put_word-requires
     returns-then-t-x
     (λ c. record { fits = omega (arith, terminal c, (well_formed _ (begin c).requires.0).limits.terminals_to) })
-    (λ c. omega (arith, counts_one c, (begin c).requires.2))
+    (λ c. omega (arith, counts_one c.before, (begin c.before).requires.2))
     (λ c. search rules)
     returns)
