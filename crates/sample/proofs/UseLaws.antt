@@ -24,6 +24,7 @@ among_middle p i = ⊎_elim (λ j. inl (inl j)) (λ j. last j) (among_parts p i)
     last (there j) = inr j
 
 among_reverse : {n : ℕ} {p : List ℕ} → Among n p → Among n (reverse p)
+among_reverse {p = []} a = elim a [ ]
 among_reverse {n} {p = x ∷ p} here = rw (reverse-cons n p) (among_right (reverse p) here)
 among_reverse {n} {p = x ∷ p} (there a) = rw (reverse-cons x p) (among_left (x ∷ []) (among_reverse a))
 

@@ -6,9 +6,9 @@ use borrow.Author.Rules.{rules}
 use Rattle.sample.proofs.numbers.Statement.{statement}
 use Rattle.sample.proofs.numbers.Tie as tie
 
-pub numbers-spec : {M : Type 1} → statement M
+pub numbers_spec : {M : Type 1} → statement M
 unfolding covered
-numbers-spec =
+numbers_spec =
     tie.close
     (tie.spec
     (λ c. search rules)
@@ -17,8 +17,8 @@ numbers-spec =
     (λ c κs. search rules)
     (λ c. search rules)
     (λ c. search rules)
-    (λ c. told c.before.a.given.1)
-    (λ c. told c.enum_told.given.1)
-    (λ c. c.numbers.ensures ∙ told c.before.before.a2.given.1)
-    (λ c. told c.enum-told2.given.1)
-    (λ c. told c.enum-told3.given.1))
+    (λ c. told c.in-Made.is)
+    (λ c. told c.in-AreaShort.is)
+    (λ c. c.numbers.ensures ∙ told c.before.in-Refused.is)
+    (λ c. told c.in-NoProduction.is)
+    (λ c. told c.in-TooLong.is))

@@ -13,45 +13,45 @@ use Rattle.sample.proofs.sample.Tie as tie
 abbrev start_of : tie.After-check → tie.Start
 start_of c = c.before.before.before.before
 
-returns_2 : tie.Need-returns-2
-returns_2 c =
-    let k = c.before.before.before in
-    refused_told _ _ _ _ c.before.e.given.1 k.before.if1.false k.check.ensures
+returns-in-Refused : tie.Need-returns-in-Refused
+returns-in-Refused c =
+    let k = c.before in
+    refused_told _ _ _ _ c.in-Refused.is k.before.if-area-lt255.false k.check.ensures
 
 -- a card that passes
 module _ (c : tie.After-productions) where
   abbrev checked : tie.After-check
-  checked = c.before.before.before
+  checked = c.before.before
 
-  passes : Checked (start_of c.before.before.before).args.c.now (0 ∷ [])
-  passes = passed c.before.enum_told.given.1 checked.check.ensures
+  passes : Checked (start_of c.before.before).args.c.now (0 ∷ [])
+  passes = passed c.before.in_default.is checked.check.ensures
 
-  room : 255 ≤ length (start_of c.before.before.before).args.area.now
-  room = checked.before.if1.left
+  room : 255 ≤ length (start_of c.before.before).args.area.now
+  room = checked.before.if-area-lt255.false
 
-returns_3 : tie.Need-returns-3
-returns_3 c =
+returns-then-productions-r : tie.Need-returns-then-productions-r
+returns-then-productions-r c =
     let p = c.before in
-    no_production (room p) (passes p) (omega (arith, c.if2.true, p.productions.ensures))
+    no_production (room p) (passes p) (omega (arith, c.if-productions-r.true, p.productions.ensures))
 
-sample-asked-requires : tie.Need-sample-asked-requires
-sample-asked-requires c κs =
+sample_asked-requires : tie.Need-sample_asked-requires
+sample_asked-requires c κs =
     let p = c.before.before in
-    record { area = room p; passes = passes p; production = omega (arith, c.before.if2.false, p.productions.ensures) }
+    record { area = room p; passes = passes p; production = omega (arith, c.before.if-productions-r.false, p.productions.ensures) }
 
-pub sample-spec : {M : Type 1} → statement M
-sample-spec =
+pub sample_spec : {M : Type 1} → statement M
+sample_spec =
     tie.close
     (tie.spec
-    (λ c. area_short c.if1.true)
+    (λ c. area_short c.if-area-lt255.true)
     (λ c κs. search rules)
     (λ c. search rules)
-    returns_2
+    returns-in-Refused
     (λ c. search rules)
     (λ c κs. search rules)
     (λ c. search rules)
-    returns_3
+    returns-then-productions-r
     (λ c. search rules)
-    sample-asked-requires
+    sample_asked-requires
     (λ c. search rules)
-    (λ c. c.before.before.sample-asked.ensures))
+    (λ c. c.before.before.sample_asked.ensures))

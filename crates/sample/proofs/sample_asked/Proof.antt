@@ -4,27 +4,27 @@ use Rattle.sample.proofs.AnswerLaws.{long_told, made_told}
 use Rattle.sample.proofs.sample_asked.Statement.{statement}
 use Rattle.sample.proofs.sample_asked.Tie as tie
 
-find-requires : tie.Need-find-requires
-find-requires c κs =
+find-n-requires : tie.Need-find-n-requires
+find-n-requires c κs =
     let asked = c.before.before.before.requires in
     ((passes _ asked.passes).0, asked.production, asked.area)
+
+returns-then-n-gt255 : tie.Need-returns-then-n-gt255
+returns-then-n-gt255 c =
+    let f = c.before.before.before in
+    long_told f.before.before.before.before.requires c.if-n-gt255.true f.find-n.ensures
 
 returns : tie.Need-returns
 returns c =
     let f = c.before.before.before in
-    long_told f.before.before.before.before.requires c.if1.true f.find.ensures
+    made_told f.before.before.before.before.requires c.if-n-gt255.false f.find-n.ensures
 
-returns_2 : tie.Need-returns-2
-returns_2 c =
-    let f = c.before.before.before in
-    made_told f.before.before.before.before.requires c.if1.false f.find.ensures
-
-pub sample-asked-spec : {M : Type 1} → statement M
-sample-asked-spec =
+pub sample_asked_spec : {M : Type 1} → statement M
+sample_asked_spec =
     tie.close
     (tie.spec
-    find-requires
+    find-n-requires
     (λ c. search rules)
-    returns
+    returns-then-n-gt255
     (λ c. search rules)
-    returns_2)
+    returns)

@@ -9,13 +9,13 @@ write-requires c κs =
     let start = c.before.before.before.before.before in
     (start.requires.0 60 (omega arith), start.requires.1)
 
-returns : tie.Need-returns
-returns c =
-    let t = c.before.before.before.before.before in
-    record { told = refl; written = λ h. c.before.before.write.ensures; kept = λ h. absurd (omega (arith, t.if1.true)) }
+returns-then-n-le255 : tie.Need-returns-then-n-le255
+returns-then-n-le255 c =
+    let t = c.before.before.before.before in
+    record { told = refl; written = λ h. c.before.before.write.ensures; kept = λ h. absurd (omega (arith, t.if-n-le255.true)) }
 
-returns_2 : tie.Need-returns-2
-returns_2 c = record { told = refl; written = λ h. absurd (omega (arith, c.if1.false)); kept = λ h. refl }
+returns-else-n-le255 : tie.Need-returns-else-n-le255
+returns-else-n-le255 c = record { told = refl; written = λ h. absurd (omega (arith, c.if-n-le255.false)); kept = λ h. refl }
 
 pub take_spec : {M : Type 1} → statement M
 take_spec =
@@ -25,5 +25,5 @@ take_spec =
     (λ c. search rules)
     write-requires
     (λ c. search rules)
-    returns
-    returns_2)
+    returns-then-n-le255
+    returns-else-n-le255)
