@@ -1,5 +1,8 @@
--- What the reading of standard input leaves. Which bytes a read brings no contract can say, so these speak of some bytes.
-use Rattle.std.specs.Prelude.{ℕ, ◌≡◌, List, take}
+-- What the reading of an input leaves. Which bytes a file or a terminal brings no contract can say, so these speak of some
+-- bytes; a reader over memory says which.
+use Rattle.std.specs.Prelude.{ℕ, ◌≡◌, List, IfSome, take}
+use Rattle.std.specs.declared.option.Option.{Option}
+use Rattle.std.specs.Io.KnownBytes.{Consumes, Keeps, IsAtEnd}
 use Rattle.decimal.specs.declared.scanner.Scan.{Scan}
 use Rattle.decimal.specs.declared.scanner.Scan.TheVariants.{Between}
 use Rattle.decimal.specs.Form.{Card}
@@ -29,17 +32,18 @@ Came bs area input.Failed = Unit {0}
 
 -- ---- private functions cite these
 
--- g is f fed with some bytes
-abbrev pub Some : Fed → Fed → Type 0
-Some f g = (bs : List ℕ) × (g ≡ fed f bs)
+-- g is f fed with the bytes that left a reader, which had the bytes old left before, and has the bytes new, where those
+-- are known
+abbrev pub Some : Option (List ℕ) → Option (List ℕ) → Fed → Fed → Type 0
+Some old new f g = (bs : List ℕ) × (g ≡ fed f bs) × Consumes old new bs
 
--- one read: the area before it, where the scan stood, and the area behind it
-abbrev pub Taken : List ℕ → Scan → List ℕ → Part → Type 0
-Taken a s b (part.Bytes t) = Some (fed_of a s) (fed_of b t)
-Taken a s b part.End = b ≡ a
-Taken a s b part.Failed = Unit {0}
+-- one read: the reader's bytes before and behind it, the area before it, where the scan stood, and the area behind it
+abbrev pub Taken : Option (List ℕ) → Option (List ℕ) → List ℕ → Scan → List ℕ → Part → Type 0
+Taken old new a s b (part.Bytes t) = Some old new (fed_of a s) (fed_of b t)
+Taken old new a s b part.End = (b ≡ a) × Keeps old new × IsAtEnd new
+Taken old new a s b part.Failed = Unit {0}
 
--- the whole input: the area before and behind
-abbrev pub Scanned : List ℕ → List ℕ → Whole → Type 0
-Scanned a b (whole.Scanned s) = Some (fed_of a (Between 0)) (fed_of b s)
-Scanned a b whole.Failed = Unit {0}
+-- the whole input: the reader's bytes, and the area before and behind
+abbrev pub Scanned : Option (List ℕ) → List ℕ → List ℕ → Whole → Type 0
+Scanned old a b (whole.Scanned s) = (bs : List ℕ) × (fed_of b s ≡ fed (fed_of a (Between 0)) bs) × IfSome old (λ xs. bs ≡ xs)
+Scanned old a b whole.Failed = Unit {0}

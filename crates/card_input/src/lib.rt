@@ -2,12 +2,13 @@
 // What fails is told on standard error, behind the program's name.
 #![tactic(auto)]
 
-ghost use Rattle.std.specs.Prelude.{◌≡◌, List, ◌++◌, ℕ, length};
+ghost use Rattle.std.specs.Prelude.{◌≡◌, List, ◌++◌, ℕ, length, IfSome};
 ghost use Rattle.decimal.specs.Page.{page_of, page, Used};
 ghost use Rattle.decimal.specs.Scanning.{fed_of, fed};
 ghost use Rattle.card_input.specs.Reading.{card_size, Taken, Scanned, Came};
 
 use decimal::{Found, Scan};
+use std::io::{self, Cursor, ErrorKind, Read, Write};
 
 // The most numbers that an input may have.
 pub const CARD: usize = 772;
@@ -44,48 +45,79 @@ fn titled(out: &mut [u8], name: &[u8], text: &[u8]) -> usize
     decimal::word(out, n, text)
 }
 
-// A line on standard error: the name and what failed, 64 bytes at most, and errno's text.
-fn fail(name: &[u8], what: &[u8]) {
-    let mut line = [0u8; 64];
-    let n = titled(&mut line, name, what);
-    os::fail(&line[..n]);
+// A failure's reason in the C library's words: std's text without ` (os error N)` behind it.
+fn reason(text: &str) -> &str {
+    match text.split_once(" (os error ") {
+        Some((words, _)) => words,
+        None => text,
+    }
 }
 
-// Reads once, and feeds the scan what came.
-fn read_some(name: &[u8], card: &mut [u16; CARD], s: Scan) -> Part
-    ensures { Taken card.old s card.new result }
+// A line: what failed, and why.
+fn tell<E: Write>(errors: &mut E, line: &[u8], error: &io::Error) -> io::Result<()> {
+    let mut text = Cursor::new([0u8; 320]);
+    write!(text, "{error}")?;
+    let n = (text.position() as usize).min(320);
+    let bytes = text.into_inner();
+    errors.write_all(line)?;
+    match str::from_utf8(&bytes[..n]) {
+        Ok(words) => writeln!(errors, ": {}", reason(words)),
+        Err(_) => writeln!(errors),
+    }
+}
+
+// A line on standard error: the name and what failed, 64 bytes at most, and the reason. Where it
+// cannot be written, nothing is left to tell it by.
+fn fail<E: Write>(errors: &mut E, name: &[u8], what: &[u8], error: &io::Error) {
+    let mut line = [0u8; 64];
+    let n = titled(&mut line, name, what);
+    let _ = tell(errors, &line[..n], error);
+}
+
+// Reads once, and feeds the scan what came. A read that a signal interrupts brings no bytes.
+fn read_some<R: Read, E: Write>(
+    input: &mut R,
+    errors: &mut E,
+    name: &[u8],
+    card: &mut [u16; CARD],
+    s: Scan,
+) -> Part
+    ensures { Taken (R.remaining input.old) (R.remaining input.new) card.old s card.new result }
 {
-    let mut buf = io::buffer();
-    let got = libc::read(libc::STDIN_FILENO, &mut buf);
-    if got < 0 {
-        fail(name, b": read");
-        return Part::Failed;
+    let mut buf = [0u8; 4096];
+    match input.read(&mut buf) {
+        Ok(0) => Part::End,
+        Ok(n) => Part::Bytes(decimal::feed(card, s, &buf[..n])),
+        Err(e) => {
+            if e.kind() == ErrorKind::Interrupted {
+                return Part::Bytes(s);
+            }
+            fail(errors, name, b": read", &e);
+            Part::Failed
+        }
     }
-    if got == 0 {
-        return Part::End;
-    }
-    let n = io::count(got, &buf);
-    Part::Bytes(decimal::feed(card, s, &buf[..n]))
 }
 
 // Reads to the end of the input. A loop has to end, and nothing says that an input does: so it
-// counts its turns down from a number that no run uses up.
-fn read_all(name: &[u8], card: &mut [u16; CARD]) -> Whole
-    ensures { Scanned card.old card.new result }
+// takes at most so many turns that no run uses them up.
+fn read_all<R: Read, E: Write>(
+    input: &mut R,
+    errors: &mut E,
+    name: &[u8],
+    card: &mut [u16; CARD],
+) -> Whole
+    ensures { Scanned (R.remaining input.old) card.old card.new result }
 {
     let mut s = Scan::Between(0);
-    let mut turns = u64::MAX;
-    while turns > 0 {
-        let part = read_some(name, card, s);
-        match part {
+    for _ in 0..u64::MAX {
+        match read_some(input, errors, name, card, s) {
             Part::Bytes(t) => s = t,
             Part::End => return Whole::Scanned(s),
             Part::Failed => return Whole::Failed,
         }
-        turns -= 1;
     }
-    io::write_all(libc::STDERR_FILENO, name);
-    io::write_all(libc::STDERR_FILENO, b": read: input without end\n");
+    let _ = errors.write_all(name);
+    let _ = errors.write_all(b": read: input without end\n");
     Whole::Failed
 }
 
@@ -100,12 +132,18 @@ fn ended(s: Scan) -> Input
     }
 }
 
-// Reads standard input to its end. The numbers of a card then stand at the front of the area.
-pub fn read(name: &[u8], card: &mut [u16; CARD]) -> Input
-    ensures { (bs : List ℕ) × Came bs card.new result }
+// Reads the input to its end. The numbers of a card then stand at the front of the area.
+pub fn read<R: Read, E: Write>(
+    input: &mut R,
+    errors: &mut E,
+    name: &[u8],
+    card: &mut [u16; CARD],
+) -> Input
+    ensures came { (bs : List ℕ) × Came bs card.new result }
+    ensures known { IfSome (R.remaining input.old) (λ bs. Came bs card.new result) }
 {
     let mut area = [0u16; CARD];
-    let all = read_all(name, &mut area);
+    let all = read_all(input, errors, name, &mut area);
     *card = area;
     match all {
         Whole::Scanned(s) => ended(s),
@@ -113,9 +151,9 @@ pub fn read(name: &[u8], card: &mut [u16; CARD]) -> Input
     }
 }
 
-// Writes a whole text to standard output.
-pub fn print(name: &[u8], text: &[u8]) {
-    if !io::write_all(libc::STDOUT_FILENO, text) {
-        fail(name, b": write");
+// Writes a whole text to the output.
+pub fn print<W: Write, E: Write>(output: &mut W, errors: &mut E, name: &[u8], text: &[u8]) {
+    if let Err(e) = output.write_all(text) {
+        fail(errors, name, b": write", &e);
     }
 }
