@@ -1,5 +1,5 @@
 -- What was fed in two parts was fed as one, the end of the input feeds nothing, and what it makes of the scan.
-use Rattle.std.proofs.Common.{◌≡◌, refl, sym, ap, ◌∙◌, List, [], ◌++◌, ℕ, ◌≤◌, length, take, IfSome, subst, arith}
+use Rattle.std.proofs.Common.{◌≡◌, refl, sym, ap, ◌∙◌, List, [], ◌++◌, ℕ, ◌≤◌, length, IfSome, subst, arith}
 use Rattle.std.specs.declared.option.Option.{Option}
 use Rattle.std.specs.declared.option.Option.TheVariants as option
 use Rattle.std.specs.Io.KnownBytes.{Keeps, IsAtEnd}
