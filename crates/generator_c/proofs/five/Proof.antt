@@ -8,10 +8,10 @@ use Rattle.generator_c.proofs.five.Statement.{statement}
 use Rattle.generator_c.proofs.five.Tie as tie
 
 returns : tie.Need-returns
-returns c = let l : length c.numbers.result ≡ 5 = omega arith in each_list 5 c.numbers.result l ∙ c.numbers.ensures
+returns c = let l : length c.numbers-n.result ≡ 5 = omega arith in each_list 5 c.numbers-n.result l ∙ c.numbers-n.ensures
 
-pub five-spec : {M : Type 1} → statement M
-five-spec =
+pub five_spec : {M : Type 1} → statement M
+five_spec =
     tie.close
     (tie.spec
     (λ c κs. search rules)

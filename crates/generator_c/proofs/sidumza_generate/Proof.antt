@@ -9,8 +9,8 @@ use Rattle.generator_c.proofs.sidumza_generate.Tie as tie
 
 returns : tie.Need-returns
 returns c =
-    let g = c.before.before.before.before.before.before.before.generate.ensures in
+    let g = c.before.before.before.before.before.before.before.generate-a.ensures in
     record { numbers = c.five.ensures ∙ ap (λ (ns : List ℕ). covered 5 ns []) g.answer; table = g.table; words = g.words; halves = g.halves }
 
-pub sidumza-generate-spec : {M : Type 1} → statement M
-sidumza-generate-spec = tie.close (tie.spec (λ c κs. search rules) (λ c κs. search rules) (λ c. search rules) (λ c. search rules) (λ c. search rules) returns)
+pub sidumza_generate_spec : {M : Type 1} → statement M
+sidumza_generate_spec = tie.close (tie.spec (λ c κs. search rules) (λ c κs. search rules) (λ c. search rules) (λ c. search rules) (λ c. search rules) returns)

@@ -8,6 +8,6 @@ pub count_spec : {M : Type 1} → statement M
 count_spec =
     tie.close
     (tie.spec
-    (λ c. by_first (rw (eq-eqb _ 10 c.if1.true)))
-    (λ c. by_first (rw (ne_eqb _ 10 c.before.if1.false, eq-eqb _ 13 c.if2.true)))
-    (λ c. by_first (rw (ne_eqb _ 10 c.before.if1.false, ne_eqb _ 13 c.if2.false))))
+    (λ c. by_first (rw (eq-eqb _ 10 c.if-first-eq10.true)))
+    (λ c. by_first (rw (ne_eqb _ 10 c.before.if-first-eq10.false, eq-eqb _ 13 c.if-first-eq13.true)))
+    (λ c. by_first (rw (ne_eqb _ 10 c.before.if-first-eq10.false, ne_eqb _ 13 c.if-first-eq13.false))))

@@ -8,10 +8,10 @@ returns : tie.Need-returns
 returns c =
     let b2 = c.before.before in
     let b6 = b2.before.before.before.before in
-    (replies _ _ _ _ _ _ _ _ _ b6.before.before.before.before.before.generate.ensures b2.respond.ensures.0, b2.respond.ensures.1)
+    (replies _ _ _ _ _ _ _ _ _ b6.before.before.before.before.generate-answer.ensures b2.respond.ensures.0, b2.respond.ensures.1)
 
-pub reply-spec : {M : Type 1} → statement M
-reply-spec =
+pub reply_spec : {M : Type 1} → statement M
+reply_spec =
     tie.close
     (tie.spec
     (λ c κs. search rules)

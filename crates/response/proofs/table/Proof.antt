@@ -4,18 +4,18 @@ use Rattle.response.proofs.Texts.{prints_form}
 use Rattle.response.proofs.table.Statement.{statement}
 use Rattle.response.proofs.table.Tie as tie
 
-returns : tie.Need-returns
-returns c =
+returns-in-Listing : tie.Need-returns-in-Listing
+returns-in-Listing c =
     let b2 = c.before.before in
-    (prints_form _ _ _ _ b2.before.before.enum_told.given.1 b2.table.ensures.0, b2.table.ensures.1)
+    (prints_form _ _ _ _ b2.before.before.in-Listing.is b2.table.ensures.0, b2.table.ensures.1)
 
-returns_2 : tie.Need-returns-2
-returns_2 c =
+returns-in-Pages : tie.Need-returns-in-Pages
+returns-in-Pages c =
     let b2 = c.before.before in
-    (prints_form _ _ _ _ b2.before.before.enum-told2.given.1 b2.table2.ensures.0, b2.table2.ensures.1)
+    (prints_form _ _ _ _ b2.before.before.in-Pages.is b2.table-in-Pages.ensures.0, b2.table-in-Pages.ensures.1)
 
-pub table-spec : {M : Type 1} → statement M
-table-spec =
+pub table_spec : {M : Type 1} → statement M
+table_spec =
     tie.close
     (tie.spec
     (λ c. search rules)
@@ -23,6 +23,6 @@ table-spec =
     (λ c. search rules)
     (λ c κs. search rules)
     (λ c. search rules)
-    returns
+    returns-in-Listing
     (λ c. search rules)
-    returns_2)
+    returns-in-Pages)

@@ -9,8 +9,8 @@ returns c =
     let b5 = c.before.before.before.before.before in
     (λ h. reply_text _ _ _ _ _ b5.reply.ensures.0 h, b5.reply.ensures.1)
 
-pub text-spec : {M : Type 1} → statement M
-text-spec =
+pub text_spec : {M : Type 1} → statement M
+text_spec =
     tie.close
     (tie.spec
     (λ c. search rules)
