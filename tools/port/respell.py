@@ -52,7 +52,7 @@ def new_name(old):
 
 def files(root, *ends):
     for folder, dirs, names in os.walk(root):
-        dirs[:] = sorted(d for d in dirs if d not in ("out", ".git", "target"))
+        dirs[:] = sorted(d for d in dirs if d not in ("out", ".git") and (d != "target" or "/proofs" in folder))
         for n in sorted(names):
             if n.endswith(ends):
                 yield os.path.join(folder, n)
