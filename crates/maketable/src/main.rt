@@ -10,16 +10,16 @@ use response::Form;
 
 // The one place that writes to standard output: the whole text for what was read. Whatever bytes
 // came, the text is theirs.
-fn print(card: &[u16; card_input::CARD], input: Input, text: &[u8])
+fn print(rt: &HostRuntime, card: &[u16; card_input::CARD], input: Input, text: &[u8])
     requires { (bs : List ℕ) → Came bs card.now input → Answers Form.Listing bs input text.now }
 {
-    card_input::print(b"maketable", text);
+    card_input::print(&mut rt.stdout(), &mut rt.stderr(), b"maketable", text);
 }
 
-fn main() {
+fn main(rt: HostRuntime) {
     let mut card = [0u16; card_input::CARD];
     let mut out = [0u8; listing::TEXT];
-    let input = card_input::read(b"maketable", &mut card);
+    let input = card_input::read(&mut rt.stdin(), &mut rt.stderr(), b"maketable", &mut card);
     let k = response::answer(&card, input, Form::Listing, &mut out);
-    print(&card, input, &out[..k]);
+    print(&rt, &card, input, &out[..k]);
 }
