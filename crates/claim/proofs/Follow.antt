@@ -6,7 +6,6 @@ use mathlib.Core.List.{List, [], ◌∷◌, ◌++◌, append_assoc, append-nil, 
 use lib.ListN.{length, drop}
 use native.Mathlib.Omega.{arith}
 use Rattle.grammar.specs.Grammar.{Grammar, Formed, Symbols}
-use Rattle.grammar.specs.Grammar
 use Rattle.lr.proofs.Runs
 use Rattle.lr.proofs.Canonical.{by_path}
 use Rattle.lr.specs.Items
@@ -20,7 +19,7 @@ use Rattle.lr.proofs.MachineLaws.{after_viable, reduction, Reducible, reducible}
 use Rattle.lr.proofs.ErrorPosition.{top, stack, stack_snoc, stack_top, stack_pop}
 use Rattle.tables.specs.Layout
 use Rattle.tables.specs.Layout.{states, terminals, productions, cell_of, left_of, length_of}
-use Rattle.machine.proofs.LrMachineLaws.{Config, conf, Step, Path, Broken, pops_all, no_next, Ends, accepts, broken}
+use Rattle.machine.proofs.LrMachineLaws.{Config, conf, Step, Path, Broken, pops_all, no_next, Ends}
 use Rattle.claim.proofs.Means.{Limits, TableMeans, automaton, cells, action_at, action_below, decode, decode_shift, decode_reduce, decode_accept, decode_wrong, coded, shift_code, reduce_code}
 
 module _ (g : Grammar) (f : Formed g) (pr : AllProductive g) (li : Limits g) (t : List ℕ) (tm : TableMeans g t) where

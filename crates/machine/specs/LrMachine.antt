@@ -1,5 +1,5 @@
 -- The LR machine over a table (003, 4.6): configurations, steps, paths, and how it ends. It knows no areas and no step limit.
-use Rattle.std.specs.Prelude.{ℕ, zero, suc, ◌+◌, ◌<◌, max, ◌≡◌, ◌≢◌, List, [], ◌∷◌, ◌++◌, length, drop}
+use Rattle.std.specs.Prelude.{ℕ, zero, suc, ◌<◌, max, ◌≡◌, ◌≢◌, List, [], ◌∷◌, ◌++◌, length, drop}
 use Rattle.sets.specs.Lists.{peek, rest}
 use Rattle.tables.specs.Layout.{cell_of, left_of, length_of, reduction, accept}
 

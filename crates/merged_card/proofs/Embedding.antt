@@ -10,7 +10,7 @@ use Rattle.grammar.specs.Grammar.{Grammar, Symbols, none, more, Derives, Sentenc
 use Rattle.grammar.specs.Useful.{Reachable, Productive, Useful}
 use Rattle.merged_card.specs.Joined.{Through}
 use Rattle.grammar.proofs.Yield.{Yields, nil, terminal, nonterminal}
-use Rattle.grammar.proofs.Derive.{derives_yields, yields_derives, rightmost_yields, yields_rightmost, rightmost_derives}
+use Rattle.grammar.proofs.Derive.{derives_yields, rightmost_yields, yields_rightmost, rightmost_derives}
 use Rattle.grammar.proofs.Closed.{All, all_head, productive_left, reachable_start, reachable_right, reachable_least}
 
 -- production r is the image of a production with the left side x

@@ -4,7 +4,6 @@ use mathlib.Core.List.{List, [], ◌∷◌, ◌++◌, map}
 use Prim.Native.Nat.{ℕ, zero, suc, ◌+◌, ◌*◌, ◌<◌, ◌≤◌}
 use native.Mathlib.Omega.{arith}
 use lib.ListN.{length, get_or, length-append, get_or-append}
-use Rattle.sets.specs.Lists.{each}
 use Rattle.grammar.specs.Card.{terminals, nonterminals, productions, symbols, left_of, length_of, symbols_at, symbol_of, start_of, right_of}
 use Rattle.grammar.proofs.CardLaws.{WellFormed, right_is, right_at}
 use Rattle.merged_card.specs.Merged.{of_first, of_second, merged_sizes, merged_lefts, merged_lengths, merged_symbols, merged_card}

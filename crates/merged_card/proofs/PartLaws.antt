@@ -1,12 +1,11 @@
 -- The pieces of the three arrays are those of the merged card, lie in their cards, and have 16 bits when they have moved.
-use mathlib.Core.Path.{◌≡◌, refl, ap}
-use mathlib.Core.List.{List, [], ◌∷◌}
+use mathlib.Core.Path.{◌≡◌, refl}
+use mathlib.Core.List.{List}
 use Prim.Native.Nat.{ℕ, ◌+◌, ◌<◌, ◌≤◌}
 use native.Mathlib.Omega.{arith}
 use lib.ListN.{get_or}
-use Rattle.sets.specs.Lists.{each}
 use Rattle.merged_card.proofs.ArrayLaws.{same_ones}
-use Rattle.grammar.specs.Card.{terminals, nonterminals, productions, symbols, left_of, length_of, symbol_of}
+use Rattle.grammar.specs.Card.{terminals, nonterminals, productions, left_of, length_of, symbol_of}
 use Rattle.grammar.proofs.CardLaws.{Limits, WellFormed, well_formed, start_mono}
 use Rattle.merged_card.specs.Merged.{moved, merged_lefts, merged_lengths, merged_symbols}
 use Rattle.merged_card.proofs.FormLaws.{moved_nonterminal, moved_bounds}

@@ -6,7 +6,7 @@ use mathlib.Core.Logic.{⊎_elim}
 use Prim.Native.Nat.{ℕ, ◌+◌, ◌-◌, ◌^◌, ◌≤◌, ◌<◌}
 use lib.Bits.{bit_or, or_add_and, and_le_r}
 use native.Mathlib.Omega.{arith}
-use lib.ListN.{get_or, set, length-set, replicate, length-replicate}
+use lib.ListN.{set, length-set, replicate, length-replicate}
 use lib.Seq.{get_or-set_same, get_or-set_other}
 use borrow.Author.Tests.{lt-ltb, le-ltb}
 use Rattle.sets.specs.Bit.{bit, Within}

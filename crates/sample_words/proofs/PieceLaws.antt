@@ -1,8 +1,8 @@
 -- The terminals of a right side, put one behind the other.
-use mathlib.Core.Path.{◌≡◌, refl, sym, ap, subst, ◌∙◌}
+use mathlib.Core.Path.{◌≡◌, refl, sym, ap, ◌∙◌}
 use mathlib.Core.Bool.{Bool, true, false}
 use mathlib.Core.List.{List, [], ◌∷◌, ◌++◌, append_assoc, append-nil}
-use mathlib.Core.Logic.{◌⊎◌, ⊎_elim}
+use mathlib.Core.Logic.{⊎_elim}
 use Prim.Native.Nat.{ℕ, zero, suc, ◌+◌, ◌-◌, ◌≤◌, ◌<◌}
 use native.Mathlib.Omega.{arith}
 use native.Mathlib.Numerals.{add-one}
@@ -11,9 +11,9 @@ use lib.Dec.{eqb}
 use lib.ListN.{length, get_or, take, set, replicate, length-append}
 use lib.Seq.{set_at, take-suc, length-take-le}
 use borrow.Author.Tests.{lt-ltb, le-ltb}
-use Rattle.sets.specs.Lists.{each, covered}
+use Rattle.sets.specs.Lists.{covered}
 use Rattle.sets.proofs.HasLaws.{lt_or_ge}
-use Rattle.grammar.specs.Card.{terminals, nonterminals, productions, length_of, start_of, form_fault}
+use Rattle.grammar.specs.Card.{terminals, nonterminals, productions, length_of, form_fault}
 use Rattle.grammar.proofs.CardLaws.{well_formed}
 use Rattle.nonterminals.proofs.WordLaws.{right_symbol}
 use Rattle.sample_words.specs.Words.{key_of, count_of, placed_sum, symbol_at, piece_of, composed, Wide}

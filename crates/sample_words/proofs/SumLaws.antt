@@ -2,7 +2,6 @@
 use mathlib.Core.Path.{◌≡◌, refl, sym, ap, ◌∙◌}
 use mathlib.Core.Bool.{Bool, true, false, false≢true}
 use mathlib.Core.List.{List, [], ◌∷◌, ◌++◌}
-use mathlib.Core.Logic.{◌⊎◌, ⊎_elim}
 use Prim.Native.Nat.{ℕ, zero, suc, ◌+◌, ◌-◌, ◌*◌, ◌≤◌, ◌<◌, min, zero-le}
 use native.Mathlib.Omega.{arith}
 use native.Mathlib.Numerals.{add-one}
@@ -10,7 +9,7 @@ use lib.Dec.{eqb}
 use lib.ListN.{get_or}
 use borrow.Author.Tests.{lt-ltb, le-ltb, eq-eqb, ne_eqb}
 use Rattle.sets.specs.Lists.{each}
-use Rattle.grammar.specs.Card.{terminals, productions, right_of, length_of}
+use Rattle.grammar.specs.Card.{terminals, productions, length_of}
 use Rattle.grammar.proofs.CardLaws.{right_is}
 use Rattle.sample_words.specs.Words.{key_of, count_of, plain_sum, used_sum, symbol_at, placed_sum, Best}
 

@@ -1,25 +1,24 @@
 -- What is known of nonterminals is derived: a word that is put together from known ones, too.
-use mathlib.Core.Path.{◌≡◌, refl, sym, ap, subst, ◌∙◌}
-use mathlib.Core.Bool.{Bool, true, false, not, ◌&&◌, false≢true}
+use mathlib.Core.Path.{◌≡◌, refl, sym, ap, ◌∙◌}
+use mathlib.Core.Bool.{Bool, true, false, false≢true}
 use mathlib.Core.List.{List, [], ◌∷◌, ◌++◌, append-nil}
-use mathlib.Core.Logic.{◌⊎◌, inl, inr, ⊎_elim}
+use mathlib.Core.Logic.{⊎_elim}
 use Prim.Native.Nat.{ℕ, zero, suc, ◌+◌, ◌-◌, ◌≤◌, ◌<◌}
 use native.Mathlib.Omega.{arith}
 use lib.Dec.{eqb}
 use lib.ListN.{length, get_or, take, set, length-set, length-append, length-replicate, length-drop}
 use lib.Seq.{get_or-set_same, get_or-set_other, take_at}
-use borrow.Author.Tests.{eq-eqb, ne_eqb, eqb-true}
+use borrow.Author.Tests.{eq-eqb, ne_eqb}
 use Rattle.sets.specs.Lists.{each, covered}
 use Rattle.sets.proofs.CoveredLaws.{covered_front}
 use Rattle.sets.proofs.HasLaws.{lt_or_ge, eq_or}
 use Rattle.grammar.specs.Grammar.{Formed}
-use Rattle.grammar.specs.Card.{terminals, nonterminals, productions, left_of, right_of, length_of, start_of, symbol_of, grammar_of, form_fault}
+use Rattle.grammar.specs.Card.{terminals, nonterminals, productions, left_of, length_of, start_of, grammar_of, form_fault}
 use Rattle.grammar.proofs.CardLaws.{well_formed, formed, right_is, right_at}
 use Rattle.grammar.proofs.Yield.{Yields, nil, terminal, nonterminal, append}
-use Rattle.nonterminals.specs.Lessening.{mass}
 use Rattle.nonterminals.proofs.LengthLaws.{mass_set}
-use Rattle.sample_words.specs.Words.{key_of, count_of, sum_of, placed_sum, symbol_at, Best, piece_of, composed, Among, here, there, Known, Lengths, Wide, Words, left_key, within, Still, Lower, same, lower}
-use Rattle.sample_words.proofs.SumLaws.{key_below, key_apart, count_plain, count_used, count_nonterminal}
+use Rattle.sample_words.specs.Words.{key_of, count_of, placed_sum, symbol_at, Best, piece_of, composed, Among, here, there, Known, Words, left_key, within, Still, Lower, same, lower}
+use Rattle.sample_words.proofs.SumLaws.{key_below, key_apart, count_used, count_nonterminal}
 use Rattle.sample_words.proofs.PieceLaws.{piece_terminal, piece_nonterminal, composed_length}
 
 pub among_left : {n : ℕ} {p : List ℕ} (q : List ℕ) → Among n p → Among n (p ++ q)

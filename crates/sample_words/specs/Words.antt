@@ -1,8 +1,8 @@
 -- How a sample is found: for each nonterminal the shortest string of terminals known so far, and the shortest known by a derivation that uses
 -- the named production. Production after production lessens what is known of its left side, until none does. Only the functions cite this.
-use Rattle.std.specs.Prelude.{ℕ, zero, suc, ◌+◌, ◌-◌, ◌≤◌, ◌<◌, min, ◌≡◌, Bool, true, false, not, ◌&&◌, cond, List, [], ◌∷◌, ◌++◌, ltb, eqb, length, get_or, take}
+use Rattle.std.specs.Prelude.{ℕ, zero, suc, ◌+◌, ◌-◌, ◌≤◌, ◌<◌, min, ◌≡◌, Bool, true, false, not, ◌&&◌, cond, List, [], ◌∷◌, ltb, eqb, length, get_or, take}
 use Rattle.sets.specs.Lists.{each, covered}
-use Rattle.grammar.specs.Card.{terminals, productions, left_of, right_of, length_of, symbol_of, start_of, grammar_of}
+use Rattle.grammar.specs.Card.{terminals, left_of, right_of, length_of, symbol_of, start_of, grammar_of}
 use Rattle.grammar.proofs.Yield.{Yields}
 use Rattle.nonterminals.specs.Lessening.{mass}
 

@@ -5,7 +5,7 @@ use Prim.Native.Nat.{ℕ, ◌+◌, ◌-◌, ◌*◌, ◌<◌, ◌≤◌}
 use native.Mathlib.Omega.{arith}
 use lib.ListN.{length, get_or, set, length-set}
 use lib.Seq.{get_or-set_same}
-use Rattle.tables.specs.Layout.{states, width, left_of, length_of, cell_of}
+use Rattle.tables.specs.Layout.{states, left_of, length_of, cell_of}
 use Rattle.machine.specs.ComputedRun.{popped, top_of, shifted, reduced_to, reduced}
 use Rattle.machine.specs.ComputedRun as machine
 use Rattle.tables.specs.declared.Shape.{Shape}

@@ -6,7 +6,7 @@ use native.Mathlib.Nat.{suc-mul, mul-le-mul_right, le_refl}
 use native.Mathlib.Omega.{arith}
 use lib.ListN.{length, get_or, take, drop, length-drop}
 use lib.Seq.{get_or-take, get_or-drop, take_all}
-use Rattle.tables.specs.Layout.{states, terminals, nonterminals, width, cell_of, size_of}
+use Rattle.tables.specs.Layout.{nonterminals, width, cell_of, size_of}
 use Rattle.tables.specs.Shape.{Shaped}
 use Rattle.tables.specs.declared.Shape.{Shape}
 use Rattle.tables.proofs.Product.{below}

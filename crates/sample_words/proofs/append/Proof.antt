@@ -1,7 +1,6 @@
-use mathlib.Core.Path.{◌≡◌, refl}
+use mathlib.Core.Path.{◌≡◌}
 use Prim.Native.Nat.{◌+◌, ◌-◌, ◌≤◌, ◌<◌, zero-le}
 use native.Mathlib.Omega.{arith}
-use borrow.Author.Rules.{rules}
 use Rattle.sample_words.proofs.PieceLaws.{Appended, appended_none, appended_more}
 use Rattle.sample_words.proofs.append.Statement.{statement}
 use Rattle.sample_words.proofs.append.Tie as tie

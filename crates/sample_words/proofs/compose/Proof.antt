@@ -1,12 +1,10 @@
-use mathlib.Core.Path.{◌≡◌, refl, ap, ◌∙◌}
-use mathlib.Core.List.{List}
-use Prim.Native.Nat.{ℕ, ◌+◌, ◌-◌, ◌≤◌, ◌<◌, zero-le}
+use mathlib.Core.Path.{◌≡◌, ap, ◌∙◌}
+use Prim.Native.Nat.{◌+◌, ◌-◌, ◌≤◌, ◌<◌, zero-le}
 use native.Mathlib.Omega.{arith}
 use borrow.Author.Rules.{rules}
-use lib.Dec.{eqb}
-use Rattle.grammar.specs.Card.{length_of, start_of, symbol_of, productions}
+use Rattle.grammar.specs.Card.{length_of, start_of, symbol_of}
 use Rattle.nonterminals.proofs.WordLaws.{right_place, right_symbol}
-use Rattle.sample_words.specs.Words.{count_of, symbol_at, placed_sum}
+use Rattle.sample_words.specs.Words.{symbol_at}
 use Rattle.sample_words.proofs.PieceLaws.{Composing, composing_none, composing_more, room_at}
 use Rattle.sample_words.proofs.compose.Statement.{statement}
 use Rattle.sample_words.proofs.compose.Tie as tie

@@ -1,10 +1,9 @@
-use mathlib.Core.Path.{◌≡◌, refl, sym, ap, subst, ◌∙◌}
-use mathlib.Core.Bool.{Bool}
+use mathlib.Core.Path.{◌≡◌, ap, ◌∙◌}
 use Prim.Native.Nat.{ℕ, ◌≤◌, ◌<◌}
 use native.Mathlib.Omega.{arith}
 use lib.ListN.{get_or}
 use borrow.Author.Rules.{rules}
-use Rattle.sample_words.specs.Words.{Best, left_key, within, Still, Words, Lower}
+use Rattle.sample_words.specs.Words.{Best, left_key, within}
 use Rattle.sample_words.proofs.WordLaws.{lessen_words, lessen_lower, lessen_still}
 use Rattle.sample_words.proofs.lessen.Statement.{statement}
 use Rattle.sample_words.proofs.lessen.Tie as tie

@@ -1,10 +1,5 @@
-use mathlib.Core.Path.{◌≡◌, ap, ◌∙◌}
-use mathlib.Core.List.{List, [], ◌++◌}
-use Prim.Native.Nat.{ℕ}
 use native.Mathlib.Omega.{arith}
-use lib.ListN.{get_or, take}
 use borrow.Author.Rules.{rules}
-use Rattle.sets.specs.Lists.{covered}
 use Rattle.sample_words.proofs.put_word.Statement.{statement}
 use Rattle.sample_words.proofs.put_word.Tie as tie
 
