@@ -17,12 +17,11 @@ use reference::random::Random;
 
 use crate::abi::{self, Merge};
 use crate::guarded::Guarded;
-use crate::maker::Maker;
 use crate::show;
 use cases::{cases, Case};
 use faults::{Fault, Seen, FAULTS};
 use kinds::{Kinds, KINDS};
-use lines::{Counts, Sample};
+use lines::{Counts, Maker, Sample};
 use pairs::Pair;
 
 /// Bytes of room for both cards, and for an area.

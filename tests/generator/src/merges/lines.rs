@@ -2,7 +2,7 @@
 //! card, by two membership tests that know nothing of LR. The maker takes it as it takes
 //! any card, and by its table each line is read as one of the right card.
 
-use reference::answer::grammar;
+use reference::answer::{grammar, TABLE_LENGTH, WORK2_LENGTH, WORK_LENGTH};
 use reference::derivation::{sentence, Shortest};
 use reference::earley::recognise;
 use reference::grammar::Grammar;
@@ -10,10 +10,13 @@ use reference::random::Random;
 use reference::spans::Spans;
 
 use super::pairs::Pair;
-use crate::maker::Maker;
+use crate::abi;
 
 /// Lines are at most so long.
 const LONGEST: usize = 12;
+/// Places for the reading of a line, and its steps.
+const STACK: usize = 500;
+const STEPS: u64 = 5_000;
 
 struct Line {
     terminals: Vec<u8>,
@@ -37,6 +40,37 @@ pub struct Counts {
     pub answers: [u64; 14],
     /// Sentences of the first card and of the second, read by the merged card's table.
     pub read: [u64; 2],
+}
+
+/// The maker's areas.
+pub struct Maker {
+    table: Vec<u16>,
+    work: Vec<u64>,
+    work2: Vec<u32>,
+}
+
+impl Maker {
+    pub fn new() -> Maker {
+        let (table, work) = (vec![0; TABLE_LENGTH], vec![0; WORK_LENGTH]);
+        Maker { table, work, work2: vec![0; WORK2_LENGTH] }
+    }
+
+    /// The number of the answer for a card.
+    fn answer(&mut self, card: &[u16]) -> u64 {
+        abi::generate(card, &mut self.table, &mut self.work, &mut self.work2)[0]
+    }
+
+    /// What a line's reading by the table lists, if it is accepted; nothing where it ran out.
+    fn read(&self, line: &[u8]) -> Option<Option<Vec<u16>>> {
+        let [mut stack, mut list, mut second] = [0; 3].map(|_| vec![0; STACK]);
+        let publisher = abi::TESTED.publisher;
+        let out = publisher(&self.table, line, &mut stack, &mut list, &mut second, STEPS);
+        match out[0] {
+            0 => Some(Some(list[..out[3] as usize].to_vec())),
+            31 | 46 => Some(None),
+            _ => None,
+        }
+    }
 }
 
 /// By both membership tests.
@@ -118,7 +152,7 @@ impl Sample {
         maker: &mut Maker,
         counts: &mut Counts,
     ) -> Result<(), String> {
-        let [answer, _] = maker.answer(merged);
+        let answer = maker.answer(merged);
         counts.answers[answer.min(13) as usize] += 1;
         let both = self.lines.iter().find(|line| line.of == [true; 2]);
         match (answer, both) {
