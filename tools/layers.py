@@ -1,9 +1,9 @@
 #!/usr/bin/env python3
 """What a change of each crate makes rt prove again, and how long that takes.
 
-    rt prove 2>&1 | python3 tools/layers.py
+    sh tools/seconds.sh | python3 tools/layers.py
 
-Reads what rt says from standard input, and crates.txt; prints a row for each crate: the seconds of its own proof, how
+Reads what tools/seconds.sh says from standard input, and crates.txt; prints a row for each crate: the seconds of its own proof, how
 many crates are proved again when it changes (itself and all above it), and the seconds of all of these one after the
 other. Status 2 for trouble: a read or write that fails, or a crate whose seconds are not there."""
 
@@ -28,16 +28,17 @@ def above(crates, name):
 
 
 def rows(text, said):
-    """The table for what crates.txt and rt say."""
+    """The table for what crates.txt and tools/seconds.sh say."""
     crates = {}
     for line in text.splitlines():
         name, colon, below = line.partition("#")[0].partition(":")
         if colon:
-            crates[name.strip()] = below.split()
+            # behind the name may stand that it is a static library
+            crates[name.split()[0]] = below.split()
     seconds = {name: int(took) for name, took in re.findall(r"^rt: (\w+) proved \((\d+) s\)$", said, re.M)}
     missing = [name for name in crates if name not in seconds]
     if missing or not crates:
-        fail(f"no seconds of {', '.join(missing) or 'any crate'}: give it what `rt prove` says")
+        fail(f"no seconds of {', '.join(missing) or 'any crate'}: give it what tools/seconds.sh says")
     out = "| crate | its own seconds | proved again | seconds of all |\n|---|---|---|---|\n"
     for name in crates:
         again = above(crates, name)
@@ -47,7 +48,7 @@ def rows(text, said):
 
 def main():
     if len(sys.argv) > 1:
-        fail("it takes no argument; what rt says comes on standard input")
+        fail("it takes no argument; what tools/seconds.sh says comes on standard input")
     try:
         text = (pathlib.Path(__file__).resolve().parents[1] / "crates.txt").read_text()
         with open(0, "rb", closefd=False) as given:

@@ -22,13 +22,14 @@ card_on_input() { # ARGUMENTS..
     { true 3>&1; } 2>/dev/null || trouble "write: standard output is closed"
 }
 
-# Prints a source that is newer than the stamp; a folder is one where a file in it came or went.
+# Prints a source that is newer than the stamp; a folder is one where a file in it came or went. rt writes into the folders
+# `out` of the crates, so neither these nor the folders that they are in are looked at.
 newer() { # PATH..
-    find "$@" -newer "$stamp" \( -type d -o -name crates.txt -o -name '*.rt' -o -name '*.antt' -o -name '*.rs' -o -name Cargo.toml \) |
-        head -n 1
+    (cd "$root/" && find "$@" -name out -prune -o -newer "$stamp" \( -type d ! -path 'crates*' -o -type d -path 'crates/*/*' -o \
+        -name crates.txt -o -name '*.rt' -o -name '*.antt' -o -name '*.rs' -o -name Cargo.toml \) -print) | head -n 1
 }
 
-# Why a file must be built; nothing where it need not be.
+# Why a file must be built; nothing where it need not be. The paths are from the repository's folder.
 stale() { # FILE PATH..
     file=$1
     shift
@@ -41,11 +42,11 @@ stale() { # FILE PATH..
     fi
 }
 
-# How many crates rt proves for a crate: itself and all below it.
+# How many crates rt proves for a crate at most: itself and all below it.
 crates_of() { # CRATE
     awk -v todo="$1" '
         { sub(/#.*/, ""); i = index($0, ":") }
-        i { n = substr($0, 1, i - 1); gsub(/[ \t]/, "", n); below[n] = substr($0, i + 1) }
+        i { split(substr($0, 1, i - 1), words, " "); below[words[1]] = substr($0, i + 1) }
         END {
             while (split(todo, now, " ")) {
                 todo = ""
@@ -55,16 +56,15 @@ crates_of() { # CRATE
         }' "$root/crates.txt"
 }
 
-# Keeps what rt says in the log and tells how many crates of all are proved.
+# Keeps what rt says in the log and tells how many crates are proved. Of what was proved before rt says nothing.
 follow() { # ALL
     proved=0
     while IFS= read -r line || [ -n "$line" ]; do
         printf '%s\n' "$line" >&8
         case $line in
-        'rt: '*' proved (unchanged'*) proved=$((proved + 1)) ;;
-        'rt: '*' proved ('*)
+        'logic=proved '*)
             proved=$((proved + 1))
-            [ "$proved" -gt "$1" ] || say "proved $proved of $1"
+            [ "$proved" -gt "$1" ] || say "proved $proved, of $1 at most"
             ;;
         esac
     done
@@ -75,7 +75,7 @@ first_error() { # LOG
     awk '
         found && /^[ \t]/ && found < 6 { print; found++; next }
         found { exit }
-        /(^|[: ])error(:|\[)|NOT PROVED|FAILED|^rt: crates\.txt/ { print; found = 1 }
+        /(^|[: ])error(:|\[)|^fn .*: (not proved|no proof)|^rt: .*crates\.txt/ { print; found = 1 }
         END { exit !found }' "$1" || tail -n 5 "$1"
 }
 
@@ -149,11 +149,7 @@ answer() { # PROGRAM
 # The proved program of crates/, named as the script, that reads a card from standard input.
 proved_program() { # ARGUMENTS..
     card_on_input "$@"
-    recipe() {
-        # rt takes a proved program with a stamp for built
-        [ -x "target/bin/$name" ] || rm -f "target/stamp/$name"
-        rt check "$name"
-    }
-    built "$root/target/bin/$name" "$name" "$root/crates.txt" "$root/crates"
+    recipe() { sh tools/build.sh "$name"; }
+    built "$root/target/bin/$name" "$name" crates.txt crates
     answer "$root/target/bin/$name"
 }

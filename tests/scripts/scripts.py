@@ -25,20 +25,29 @@ CONFLICT = b"2 1 2 3 2 2 2 1 2 2 1"
 # The scripts that run a proved program, which has their name, with how it begins its answer to card A.
 PROVED = {"maketable": TABLE_A, "pagetable": b"   0     0     0     1     2  "}
 
-# Stands for rt: `act` is what a case has it do between its first and its last line. It takes a program with a stamp for
-# built, as rt does.
+# Stands for rt, in a crate's folder: `act` is what a case has it do between its first and its last line, at the root. Of
+# sets, which was proved before, it says nothing. It writes into `out` of the crates, and runs a program that it has built.
 RT = """#!/bin/sh
-echo "begin $*" >>"$FAKE/calls"
-echo "rt: sets proved (unchanged since it was last proved)"
-echo "rt: grammar proved (2 s)"
+crate=${PWD##*/}
+echo "begin $* $crate" >>"$FAKE/calls"
+mkdir -p ../grammar/out/incremental/made out/incremental/made
+case $1 in run) exec 4>&1 1>&2 ;; esac
+echo "fn grammar::f: proved"
+echo "crate grammar: modules loaded=1 checked=2"
+echo "logic=proved functions=1"
+cd ../..
 . "$FAKE/act"
-echo "rt: $2 proved (1 s)"
-mkdir -p target/bin target/stamp
-if [ -e "$FAKE/programs/$2" ] && [ ! -e "target/stamp/$2" ]; then
-    cp "$FAKE/programs/$2" "target/bin/.$2" && mv "target/bin/.$2" "target/bin/$2"
-    : >"target/stamp/$2"
-fi
-echo "end $*" >>"$FAKE/calls"
+cd "crates/$crate"
+echo "logic=proved functions=1"
+case $1 in
+run)
+    cp "$FAKE/programs/$crate" "out/$crate"
+    "out/$crate" >&4
+    ;;
+lib) echo "an archive" >"out/lib$crate.a" ;;
+esac
+cd ../..
+echo "end $* $crate" >>"$FAKE/calls"
 """
 
 CARGO = """#!/bin/sh
@@ -60,8 +69,10 @@ class Room:
         self.base.chmod(0o755)
         self.root = self.base / "a copy"
         self.fake = self.base / "fake"
-        for folder in ["crates/sets/src", "crates/grammar/src", *[f"crates/{each}/src" for each in PROVED], "bindings/rust/src"]:
+        for folder in [*[f"crates/{each}/src" for each in ["sets", "grammar", "generator_c", *PROVED]], "bindings/rust/src"]:
             (self.root / folder).mkdir(parents=True)
+        for each in PROVED:
+            (self.root / f"crates/{each}/src/main.rt").write_text("// a program\n")
         for file in ["Cargo.toml", "build.rs"]:
             (self.root / "bindings/rust" / file).write_text("# a source\n")
         for script in programs:
@@ -73,8 +84,8 @@ class Room:
             text = path.read_text()
             assert text.count(old) == 1, f"{text.count(old)} times in {path.name}: {old}"
             path.write_text(text.replace(old, new))
-        (self.root / "crates.txt").write_text("# a few\nsets:\ngrammar: sets\nmaketable: grammar sets io libc\n"
-                                              "generator_c: grammar\npagetable: grammar sets io libc\n")
+        (self.root / "crates.txt").write_text("# a few\nsets:\ngrammar: sets\nmaketable: grammar sets json\n"
+                                              "generator_c staticlib: grammar\npagetable: grammar sets json\n")
         self.source = self.root / "crates/grammar/src/lib.rt"
         self.source.write_text("// a source\n")
         self.fake.mkdir()
@@ -148,7 +159,7 @@ def wait_for(what, true):
 
 def checked(name):
     """rt's calls of a build."""
-    return [f"begin check {name}", f"end check {name}"]
+    return [f"begin run {name}", f"end run {name}"]
 
 
 def bare(room):
@@ -231,7 +242,7 @@ def builds(room):
     same("the first call", (status, out), (0, room.table))
     same("its words", err.replace(str(room.root), "ROOT"),
          "NAME: ROOT/target/bin/NAME is missing: building it; from nothing this takes minutes\n"
-         "NAME: proved 2 of 3\nNAME: proved 3 of 3\nNAME: built\n".replace("NAME", room.name))
+         "NAME: proved 1, of 3 at most\nNAME: proved 2, of 3 at most\nNAME: built\n".replace("NAME", room.name))
     same("the second call", room.run(), (0, room.table, ""))
     same("rt's calls", room.calls(), checked(room.name))
     shutil.rmtree(room.root / "target")
@@ -333,11 +344,11 @@ def apart(room):
         runs(f"{path.name} removed", other, False)
         runs(f"{path.name} removed", one, True)
     change()
-    room.act(f'[ "$2" != {one} ] || {{ echo "rt: FAILED: {one}"; exit 1; }}')
+    room.act(f'[ "$crate" != {one} ] || {{ echo "fn {one}::main: not proved"; exit 1; }}')
     status, out, err = room.run()
     same("a failed build", (status, out), (2, b""))
     runs("the other's failed", other, True)
-    says(pathlib.Path(err.strip().rpartition("said is in ")[2]).read_text(), f"rt: FAILED: {one}")
+    says(pathlib.Path(err.strip().rpartition("said is in ")[2]).read_text(), f"fn {one}::main: not proved")
     same("a failed build, again", room.run()[:2], (2, b""))
     room.act("")
     runs("no longer failing", one, True)
@@ -379,20 +390,23 @@ def fails(room):
     time.sleep(0.02)
     room.source.write_text("// wrong\n")
     room.act("""printf '%s\\n' 'fn grammar::f: proved' 'x/lib.rt:10:5: error: `f`: expected 1' '  found 2' 'fn grammar::g: proved' \\
-        'x/lib.rt:20:5: error: `g`: another' 'rt: grammar NOT PROVED (exit 1, 1 s)' 'rt: FAILED: grammar'; exit 1""")
+        'x/lib.rt:20:5: error: `g`: another' 'fn grammar::h: not proved' 'rt: the library grammar did not build'; exit 1""")
     for _ in range(2):
         status, out, err = room.run()
         same("a failed build", (status, out), (2, b""))
         says(err, "lib.rt:10:5: error: `f`: expected 1\n  found 2\n", "could not be built", f"target/{room.name}.log")
         assert "another" not in err, f"more than the first error: {err}"
-    says((room.root / f"target/{room.name}.log").read_text(), "another", "rt: FAILED: grammar")
-    room.act("echo 'rt: crates.txt: line 1: expected NAME' >&2; exit 2")
-    says(room.run()[2], "crates.txt: line 1")
-    room.act("exit 0")
+    says((room.root / f"target/{room.name}.log").read_text(), "another", "rt: the library grammar did not build")
+    room.act("printf '%s\\n' 'rt: a line' 'fn grammar::f: no proof: a goal' 'rt: the end' ''; exit 1")
+    says(room.run()[2], "fn grammar::f: no proof: a goal\n")
+    room.act("echo \"rt: $PWD/crates.txt: write NAME\" >&2; exit 2")
+    says(room.run()[2], "crates.txt: write NAME")
+    (room.root / f"crates/{room.name}/out/{room.name}").unlink()
     (room.root / f"target/bin/{room.name}").unlink()
+    room.act("exit 0")
     status, out, err = room.run()
     same("no program left", (status, out), (2, b""))
-    says(err, "has left no")
+    says(err, "could not be built")
 
 
 def no_kit(room):
@@ -459,9 +473,10 @@ def explains(room):
     (room.root / "card").write_bytes(CARD_A)
     status, out, err = room.shell("./explain <card")
     same("the first call", (status, out), (0, EXPLAINED_A))
-    says(err, "explain is missing: building", "proved 3 of 3", "built")
-    built = ["begin check generator_c", "end check generator_c", "begin staticlib generator_c", "end staticlib generator_c",
-             f"cargo build {room.root}/target/staticlib"]
+    says(err, "explain is missing: building", "proved 2, of 3 at most", "built")
+    built = ["begin lib generator_c", "end lib generator_c", f"cargo build {room.root}/target/staticlib"]
+    same("the archive", [(path.name, path.read_text()) for path in room.root.glob("target/staticlib/*")],
+         [("libgenerator_c.a", "an archive\n")])
     same("its calls", room.calls(), built)
     same("the second call", room.shell("./explain <card"), (0, EXPLAINED_A, ""))
     (room.base / "link").symlink_to("a copy/explain")
@@ -495,11 +510,17 @@ def explains(room):
     same("standard error closed", room.shell("./explain <card 2>&-"), (0, EXPLAINED_A, ""))
     room.source.touch()
     for name, act, words in [("cargo-act", "echo 'error: could not compile' >&2; exit 101", "error: could not compile"),
-                             ("act", "echo 'rt: grammar NOT PROVED (exit 1, 0 s)'; exit 1", "grammar NOT PROVED")]:
+                             ("act", "echo 'fn grammar::f: not proved'; exit 1", "fn grammar::f: not proved")]:
         (room.fake / name).write_text(act)
         status, out, err = room.shell("./explain <card")
         same("a failed build", (status, out), (2, b""))
         says(err, words, "could not be built", "target/explain.log")
+    (room.fake / "act").write_text("")
+    (room.fake / "cargo-act").write_text("exit 0")
+    (room.root / "target/cargo/release/explain").unlink()
+    status, out, err = room.shell("./explain <card")
+    same("no tool left", (status, out), (2, b""))
+    says(err, "has left no")
     (room.fake / "cargo").unlink()
     status, out, err = room.shell("./explain <card", dict(room.env, PATH=f"{room.fake}:{bare(room)}"))
     same("no cargo", (status, out), (2, b""))
@@ -507,7 +528,18 @@ def explains(room):
 
 
 def layers(room):
-    """tools/layers.py: what stands above each crate, with rt's seconds."""
+    """tools/seconds.sh and tools/layers.py: the seconds of each crate, and what stands above it with its seconds."""
+    status, out, err = room.shell("sh tools/seconds.sh")
+    same("the crates", (status, re.sub(rb"[0-9]+ s", b"0 s", out), err), (0, b"".join(
+        b"rt: %s proved (0 s)\n" % name for name in [b"sets", b"grammar", b"maketable", b"generator_c", b"pagetable"]), ""))
+    for what, act, words in [
+        ("kept work", 'echo "rt: $crate: begins with what a check kept in /elsewhere"', "sets does not begin with nothing"),
+        ("a crate that is not proved", "exit 1", "sets is not proved"),
+    ]:
+        room.act(act)
+        status, out, err = room.shell("sh tools/seconds.sh")
+        same(what, (status, out), (1, b""))
+        says(err, words)
     said = "".join(f"rt: {name} proved ({took} s)\n" for name, took in
                    [("sets", 5), ("grammar", 7), ("maketable", 20), ("generator_c", 100), ("pagetable", 1000)])
     (room.root / "said").write_text("fn sets::has: proved\n" + said + "rt: ok, 5 crates proved\n")
@@ -541,7 +573,7 @@ CASES = [(case, name) for case in TWICE for name in PROVED] + [(explains, "maket
 
 # A fault is planted for maketable, or for the program that is named behind it.
 FAULTS = [
-    ("what cargo writes taken for a source", explains, ('"$root/bindings/rust/src" ', '"$root/bindings/rust" ', "explain")),
+    ("what cargo writes taken for a source", explains, (' bindings/rust/src ', ' bindings/rust ', "explain")),
     ("status 0 for refusals", answers, ("exit 1 ;; esac", "exit 0 ;; esac")),
     ("status 0 for `not a card`", answers, ("'refused '* | 'not a card'*)", "'refused '*)")),
     ("the last line feed lost", answers, ("        echo .\n", "")),
@@ -555,10 +587,12 @@ FAULTS = [
     ("a signal not seen", failing_calls, ("\n        exit \"$ended\"", "\n        exit 0")),
     ("words need standard error", builds, ('"$*" >&2 || :', '"$*" >&2')),
     ("a lost reader not seen", failing_calls, ("${why##*: }\"\n        exit 2", "${why##*: }\"")),
-    ("crates not counted", builds, ("proved=$((proved + 1)) ;;", ";;")),
+    ("crates not counted", builds, ("            proved=$((proved + 1))\n", "")),
     ("crates of others counted", builds, ("if (now[k] in below &&", "if (")),
     ("built at each call", builds, ('touch -r "$began" "$stamp"', "true")),
-    ("a removed source not seen", builds, ("-type d -o ", "")),
+    ("a removed source not seen", builds, ("-type d -path 'crates/*/*' -o ", "-false -o ")),
+    ("what rt writes taken for a source", builds, ("-name out -prune -o ", "")),
+    ("a folder that rt writes into taken for a source", builds, ("-type d ! -path 'crates*' -o ", "-type d -o ")),
     ("crates.txt not looked at", builds, ("-name crates.txt -o ", "")),
     ("an unstamped program taken", builds, ('[ ! -f "$stamp" ]', "false")),
     ("stamped after the build", changed_meanwhile, ('touch -r "$began"', "touch")),
@@ -574,6 +608,8 @@ FAULTS = [
     ("the log not kept", fails, ("printf '%s\\n' \"$line\" >&8", "true")),
     ("rt taken to be there", no_kit, ("command -v rt >/dev/null ||", "true ||")),
     ("flock taken to be there", no_kit, ("command -v flock >/dev/null ||", "true ||")),
+    ("what is kept not seen", layers, ("! grep", "true || grep", "tools/seconds.sh")),
+    ("a crate that is not proved passed over", layers, ('is not proved: see $log" >&2; exit 1;', 'is not proved: see $log" >&2;', "tools/seconds.sh")),
     ("only what stands directly above", layers, ("        found |= more\n", "        return found | more\n", "tools/layers.py")),
     ("a crate without seconds passed over", layers, ("if missing or not crates:", "if not crates:", "tools/layers.py")),
     ("Rust sources not looked at", explains, ("-o -name '*.rs' ", "")),
@@ -590,7 +626,9 @@ FAULTS = [
     ("one log for all", apart, ("log=$root/target/$name.log", "log=$root/target/all.log")),
     ("the stamps of all removed", apart, ('rm -f "$stamp"', 'rm -f "$root"/target/*.built')),
     ("a lock for each", one_of_each, ("lock=$root/target/build.lock", "lock=$root/target/$name.lock")),
-    ("a program that rt takes for built", builds, ('rm -f "target/stamp/$name"', "true")),
+    ("a program not taken from rt", builds, ('put "crates/$crate/out/$crate" target/bin', ":", "tools/build.sh")),
+    ("a build that leaves nothing taken", explains, ('[ -x "$file" ] || trouble "the build', 'true || trouble "the build')),
+    ("an archive not taken from rt", explains, ('put "crates/$crate/out/lib$crate.a" target/staticlib', ":", "tools/build.sh")),
     ("another status without readlink", no_kit, ("|| exit 2", "|| exit 1", "pagetable"), "pagetable"),
 ]
 
