@@ -4,11 +4,7 @@
 # Exit status 0: all passed.
 set -eu
 cd "$(dirname "$0")/.."
-# most of what is needed in one call, and more at a time than there are cores, so that none waits for another
-RT_JOBS=${RT_JOBS:-6} rt check parser generator merge maketable pagetable
-rt staticlib parser_c
-rt staticlib generator_c
-rt staticlib merge_c
+sh tools/build.sh parser_c generator_c merge_c maketable pagetable
 command -v bison >/dev/null || { apt-get install -y bison || { apt-get update && apt-get install -y bison; }; } >/dev/null 2>&1 ||
     echo "Bison cannot be installed here"
 # the reader's proofs with limits and counts of 32 bits, and its tests; what they say is shown behind the maker's

@@ -15,7 +15,7 @@ fn main() {
         println!("cargo:rerun-if-changed={}", archive.display());
         if !archive.is_file() {
             eprintln!(
-                "There is no {}: make it with `rt staticlib {name}` in the repository, or name its folder by SIDUMZA_LIB.",
+                "There is no {}: make it with `sh tools/build.sh {name}` in the repository, or name its folder by SIDUMZA_LIB.",
                 archive.display()
             );
             std::process::exit(1);

@@ -1,8 +1,10 @@
 #!/bin/sh
-# Makes target/lengths/target/staticlib/liblengths_c.a, through which the tests see `nonterminals::shortest`.
+# Makes target/lengths/liblengths_c.a, through which the tests see `nonterminals::shortest`.
 exec sh "$(dirname "$0")/archive.sh" target/lengths lengths_c nonterminals card <<'END'
 // The number of a card's first fault of form; where it has none, 0 and the lengths.
-#[no_mangle]
+#![tactic(auto)]
+
+#[unsafe(no_mangle)]
 pub extern "C" fn sidumza_shortest(card: &[u16], out: &mut [u16; 60]) -> u16 {
     let fault = card::form_fault(card);
     if fault == 0 {

@@ -6,9 +6,9 @@
 #
 #     tests/generator/run.sh
 #
-# GENERATOR_ARCHIVE, PARSER_ARCHIVE and MERGE_ARCHIVE name the archives (`rt staticlib
-# ..`), MAKETABLE and PAGETABLE the programs; without them those of target/ are taken, and
-# a missing program is skipped. LENGTHS_ARCHIVE and PAGES_ARCHIVE name those of the
+# GENERATOR_ARCHIVE, PARSER_ARCHIVE and MERGE_ARCHIVE name the archives, MAKETABLE and
+# PAGETABLE the programs (all made by tools/build.sh); without them those of target/ are
+# taken, and a missing program is skipped. LENGTHS_ARCHIVE and PAGES_ARCHIVE name those of the
 # lengths and of the pages; without them lengths.sh and pages.sh make them. STAND_IN=1
 # runs all of it with the reference, and for lengths, pages and merged cards a second way,
 # in their place. SEED and CARDS are those of the random tests. Exit status 0: all passed.
@@ -39,8 +39,8 @@ else
     for archive in "$GENERATOR_ARCHIVE" "$PARSER_ARCHIVE" "$MERGE_ARCHIVE"; do
         [ -f "$archive" ] || { echo "no archive $archive"; exit 2; }
     done
-    LENGTHS_ARCHIVE=$(realpath -m "${lengths:-$root/target/lengths/target/staticlib/liblengths_c.a}")
-    PAGES_ARCHIVE=$(realpath -m "${pages:-$root/target/pages_archive/target/staticlib/libpages_c.a}")
+    LENGTHS_ARCHIVE=$(realpath -m "${lengths:-$root/target/lengths/liblengths_c.a}")
+    PAGES_ARCHIVE=$(realpath -m "${pages:-$root/target/pages_archive/libpages_c.a}")
     export GENERATOR_ARCHIVE PARSER_ARCHIVE MERGE_ARCHIVE LENGTHS_ARCHIVE PAGES_ARCHIVE
     generator=$GENERATOR_ARCHIVE
     parser=$PARSER_ARCHIVE

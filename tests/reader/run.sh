@@ -1,6 +1,6 @@
 #!/bin/sh
 # Builds and runs the tests and examples of the parser: run.sh [ARCHIVE]
-# ARCHIVE is libparser_c.a, by default target/staticlib/libparser_c.a of the repository (rt staticlib parser_c).
+# ARCHIVE is libparser_c.a, by default target/staticlib/libparser_c.a of the repository (tools/build.sh parser_c).
 # STAND_IN=1 takes the reference of the generator's tests in its place, without the look at its symbols.
 # SEED and CASES set the differential test's seed and number of cases. Exit status 0: all passed.
 cd "$(dirname "$0")/../.." || exit 1
@@ -11,7 +11,7 @@ if [ -n "${STAND_IN:-}" ]; then
     set -- target/stand-in/libparser_c.a
 fi
 archive=$(readlink -f "${1:-target/staticlib/libparser_c.a}")
-[ -f "$archive" ] || { echo "reader: no archive '$1': run rt staticlib parser_c first"; exit 1; }
+[ -f "$archive" ] || { echo "reader: no archive '$1': run sh tools/build.sh parser_c first"; exit 1; }
 export SIDUMZA_LIB="${archive%/*}" CARGO_TARGET_DIR="$PWD/target/cargo"
 out=target/reader
 mkdir -p "$out"
@@ -66,7 +66,7 @@ no_archive() {
         echo "built without an archive"
         return 1
     fi
-    grep "There is no $PWD/$out/nothing/libparser_c.a: make it with .rt staticlib parser_c. in the repository" "$out/refused"
+    grep "There is no $PWD/$out/nothing/libparser_c.a: make it with .sh tools/build.sh parser_c. in the repository" "$out/refused"
 }
 
 [ -n "${STAND_IN:-}" ] || part "symbols of the archive" symbols
