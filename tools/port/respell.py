@@ -30,6 +30,7 @@ OTHER = {
     "terminal-ok": "terminal_check_passed",
     "input_ok": "input_passed",
     "rest_in": "rest_in_is",
+    "notACard": "not_a_card",
 }
 LAWS = """after-of answer-of card-answer card-text cell-back cell-ok cells-ok closed-ok entries-ok first-of left-of lefts-ok
 masked-cell merged-symbols names-ok no-checkpoint occurring-of of-first of-second productions-ok reduced-to refusal-text

@@ -27,8 +27,8 @@ abbrev pub refused_word : List ℕ
 refused_word = 114 ∷ 101 ∷ 102 ∷ 117 ∷ 115 ∷ 101 ∷ 100 ∷ []
 
 -- the line `not a card`
-abbrev pub not_aCard : List ℕ
-not_aCard = 110 ∷ 111 ∷ 116 ∷ 32 ∷ 97 ∷ 32 ∷ 99 ∷ 97 ∷ 114 ∷ 100 ∷ 10 ∷ []
+abbrev pub not_a_card : List ℕ
+not_a_card = 110 ∷ 111 ∷ 116 ∷ 32 ∷ 97 ∷ 32 ∷ 99 ∷ 97 ∷ 114 ∷ 100 ∷ 10 ∷ []
 
 -- numbers, each behind a blank
 unfoldable pub spaced : List ℕ → List ℕ

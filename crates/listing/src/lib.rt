@@ -4,7 +4,7 @@
 ghost use Rattle.std.specs.Prelude.{◌≡◌, ◌-◌, ◌<◌, get_or};
 ghost use Rattle.decimal.specs.Page.{page_of, page, wrote, Used};
 ghost use Rattle.tables.specs.Layout.{states, width};
-ghost use Rattle.listing.specs.Listing.{spaced, line_of, row_of, table_text, refusal_text, not_aCard};
+ghost use Rattle.listing.specs.Listing.{spaced, line_of, row_of, table_text, refusal_text, not_a_card};
 ghost use Rattle.listing.specs.Parts.{part, arrays_of, rows_of};
 
 use decimal::{number, put, word};
@@ -111,7 +111,7 @@ pub fn refusal(out: &mut [u8], values: &[u16]) -> usize
 
 // The line for an input that is no card.
 pub fn not_a_card(out: &mut [u8]) -> usize
-    ensures result_after { page_of out.new result ≡ page out.old not_aCard }
+    ensures result_after { page_of out.new result ≡ page out.old not_a_card }
     ensures used { Used result out.new }
 {
     word(out, 0, b"not a card\n")

@@ -14,7 +14,7 @@ use Rattle.decimal.specs.Page.{page_of, page}
 use Rattle.decimal.specs.Scanning.{scanned}
 use Rattle.decimal.proofs.Scanned.{scanned_card, scanned_none}
 use Rattle.decimal.proofs.Written.{page_text}
-use Rattle.listing.specs.Listing.{not_aCard}
+use Rattle.listing.specs.Listing.{not_a_card}
 use Rattle.lalr.specs.Answer.{made}
 use Rattle.lalr.specs.ComputedAnswer.{card_answer}
 use Rattle.response.specs.declared.Form.{Form}
@@ -28,10 +28,10 @@ module _ (form : Form) (i : Input) (bs area : List ℕ) (came : Came bs area i) 
   pub card_answers : (n : ℕ) {text : List ℕ} → i ≡ input.Card n → text ≡ card_text form (take n area) → Answers form bs i text
   card_answers n e t = let h = rw e at came in rw (e, t) (card h.card)
 
-  pub other_answers : (before out : List ℕ) (n : ℕ) → i ≡ input.NotACard → page_of out n ≡ page before not_aCard → room_of form ≤ length before → Answers form bs i (take n out)
+  pub other_answers : (before out : List ℕ) (n : ℕ) → i ≡ input.NotACard → page_of out n ≡ page before not_a_card → room_of form ≤ length before → Answers form bs i (take n out)
   other_answers before out n e k l =
       let h = rw e at came in
-      rw (e, page_text before not_aCard out n k (omega (arith, line_fits form))) (other h)
+      rw (e, page_text before not_a_card out n k (omega (arith, line_fits form))) (other h)
 
 pub nothing_answers : (form : Form) (i : Input) (bs : List ℕ) → i ≡ input.Failed → Answers form bs i []
 nothing_answers form i bs e = rw e refl
@@ -57,7 +57,7 @@ module _ (bs : List ℕ) where
   some_text form = go (scanned (zeros card_size) bs) refl
     where
       go : (o : Option (List ℕ)) → scanned (zeros card_size) bs ≡ o → (x : List ℕ) × Prints form bs x
-      go none e = (not_aCard, other ((scanned_none (zeros card_size) zeros_length bs).0 e))
+      go none e = (not_a_card, other ((scanned_none (zeros card_size) zeros_length bs).0 e))
       go (some c) e = (card_text form c, card (found_card bs c e))
 
   -- where the bytes are no card, or a card that is refused, every form prints the same

@@ -3,7 +3,7 @@ use Rattle.std.specs.Prelude.{ℕ, ◌≡◌, List, []}
 use Rattle.decimal.specs.Form.{Card}
 use Rattle.card_input.specs.declared.Input.{Input}
 use Rattle.card_input.specs.declared.Input.TheVariants as input
-use Rattle.listing.specs.Listing.{not_aCard}
+use Rattle.listing.specs.Listing.{not_a_card}
 use Rattle.response.specs.declared.Form.{Form}
 use Rattle.response.specs.Response.{card_text}
 
@@ -11,7 +11,7 @@ pub data Prints (form : Form) (bs : List ℕ) : List ℕ → Type 0 where
   -- the text of the card's numbers; an input without a number is the empty card
   card : {c : List ℕ} → Card bs c → Prints form bs (card_text form c)
   -- "input of other form, or over 772 numbers, prints `not a card`"
-  other : ((c : List ℕ) → Card bs c → ⊥) → Prints form bs not_aCard
+  other : ((c : List ℕ) → Card bs c → ⊥) → Prints form bs not_a_card
 
 -- the text for what was read of the input bs; nothing is printed where a read failed
 abbrev pub Answers : Form → List ℕ → Input → List ℕ → Type 0
