@@ -16,7 +16,7 @@ import sys
 NAME = r"[^\s(){}.;,@\"«»]+"
 MODIFIERS = r"(?:(?:pub|unfoldable|abbrev|data|record|constructor) +)*"
 DECLARED = re.compile(rf"(?m)^( *)({MODIFIERS})({NAME}(?: {NAME})*?)((?: \{{[^{{}}\n]*\}})*(?: \([^()\n]*(?:\([^()\n]*\)[^()\n]*)*\))*) :(?= |$)")
-GOAL = re.compile(r"(?:tie|goal)\.")
+GOAL = re.compile(r"tie\.(?:Need-|invariant|decreases)|goal\.")
 TURNS = re.compile(r"-|(?<=[a-z0-9])[A-Z]")
 WORD = re.compile(r"[A-Za-z0-9_'₀-₉-]+")
 

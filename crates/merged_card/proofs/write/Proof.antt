@@ -6,63 +6,63 @@ use Rattle.merged_card.proofs.write.Tie as tie
 
 -- ---- the way back, call by call
 
-abbrev lengths-of : tie.After-array-j → tie.After-lengths
-lengths-of c = c.before.before
+abbrev lengths_of : tie.After-array-j → tie.After-lengths
+lengths_of c = c.before.before
 
 abbrev array_of : tie.After-lengths → tie.After-array-i
 array_of l = l.before.before.before
 
-abbrev lefts-of : tie.After-array-i → tie.After-lefts
-lefts-of r = r.before.before
+abbrev lefts_of : tie.After-array-i → tie.After-lefts
+lefts_of r = r.before.before
 
 abbrev header_of : tie.After-lefts → tie.After-header
 header_of l = l.before.before.before
 
-abbrev terminals-of : tie.After-lefts → tie.After-terminals-t
-terminals-of l = (header_of l).before.before
+abbrev terminals_of : tie.After-lefts → tie.After-terminals-t
+terminals_of l = (header_of l).before.before
 
 abbrev start : tie.After-lefts → tie.Start
-start l = (terminals-of l).before.before.before.before
+start l = (terminals_of l).before.before.before.before
 
 array-i-requires : tie.Need-array-i-requires
 array-i-requires c κs =
     let l = c.before in
-    lefts_asked _ _ (terminals-of l).terminals-t.ensures (start l).args.out.now (start l).requires (header_of l).header.ensures l.lefts.ensures
+    lefts_asked _ _ (terminals_of l).terminals-t.ensures (start l).args.out.now (start l).requires (header_of l).header.ensures l.lefts.ensures
 
 array-j-requires : tie.Need-array-j-requires
 array-j-requires c κs =
     let n = c.before in
-    let l = lefts-of (array_of n) in
-    lengths_asked _ _ (terminals-of l).terminals-t.ensures (start l).args.out.now (start l).requires (header_of l).header.ensures l.lefts.ensures (array_of n).array-i.ensures n.lengths.ensures
+    let l = lefts_of (array_of n) in
+    lengths_asked _ _ (terminals_of l).terminals-t.ensures (start l).args.out.now (start l).requires (header_of l).header.ensures l.lefts.ensures (array_of n).array-i.ensures n.lengths.ensures
 
 rights-requires : tie.Need-rights-requires
 rights-requires c κs =
-    let n = lengths-of c.before.before in
-    (start (lefts-of (array_of n))).requires.alike
+    let n = lengths_of c.before.before in
+    (start (lefts_of (array_of n))).requires.alike
 
 array-requires : tie.Need-array-requires
 array-requires c κs =
     let d = c.before.before.before.before in
-    let n = lengths-of d in
-    let l = lefts-of (array_of n) in
-    symbols_asked _ _ (terminals-of l).terminals-t.ensures (start l).args.out.now (start l).requires (header_of l).header.ensures l.lefts.ensures (array_of n).array-i.ensures n.lengths.ensures d.array-j.ensures c.before.rights.ensures
+    let n = lengths_of d in
+    let l = lefts_of (array_of n) in
+    symbols_asked _ _ (terminals_of l).terminals-t.ensures (start l).args.out.now (start l).requires (header_of l).header.ensures l.lefts.ensures (array_of n).array-i.ensures n.lengths.ensures d.array-j.ensures c.before.rights.ensures
 
 shape_of-out : tie.Need-shape_of-out
 shape_of-out c =
     let e = c.before.before in
     let d = e.before.before.before.before.before in
-    let n = lengths-of d in
-    let l = lefts-of (array_of n) in
-    whole_length _ _ (terminals-of l).terminals-t.ensures (start l).args.out.now (start l).requires (header_of l).header.ensures l.lefts.ensures (array_of n).array-i.ensures n.lengths.ensures d.array-j.ensures
+    let n = lengths_of d in
+    let l = lefts_of (array_of n) in
+    whole_length _ _ (terminals_of l).terminals-t.ensures (start l).args.out.now (start l).requires (header_of l).header.ensures l.lefts.ensures (array_of n).array-i.ensures n.lengths.ensures d.array-j.ensures
     e.before.before.rights.ensures e.array.ensures.1
 
 returns : tie.Need-returns
 returns c =
     let e = c.before.before in
     let d = e.before.before.before.before.before in
-    let n = lengths-of d in
-    let l = lefts-of (array_of n) in
-    whole_written _ _ (terminals-of l).terminals-t.ensures (start l).args.out.now (start l).requires (header_of l).header.ensures l.lefts.ensures (array_of n).array-i.ensures n.lengths.ensures d.array-j.ensures
+    let n = lengths_of d in
+    let l = lefts_of (array_of n) in
+    whole_written _ _ (terminals_of l).terminals-t.ensures (start l).args.out.now (start l).requires (header_of l).header.ensures l.lefts.ensures (array_of n).array-i.ensures n.lengths.ensures d.array-j.ensures
     e.before.before.rights.ensures e.array.ensures.1
 
 pub write_spec : {M : Type 1} → statement M
