@@ -157,3 +157,22 @@ pub fn print<W: Write, E: Write>(output: &mut W, errors: &mut E, name: &[u8], te
         fail(errors, name, b": write", &e);
     }
 }
+
+// What is read of bytes in memory is answered by these bytes.
+#[cfg(test)]
+fn read_bytes(bytes: &[u8], card: &mut [u16; CARD]) -> Input
+    ensures { Came bytes.now card.new result }
+{
+    let mut input = bytes;
+    read(&mut input, &mut io::sink(), b"test", card)
+}
+
+#[test]
+fn bytes_are_read(rt: HostRuntime) {
+    let mut card = [0u16; CARD];
+    match read_bytes(b"7 65535\n0", &mut card) {
+        Input::Card(n) => assert!(rt; n == 3 && card[0] == 7 && card[1] == 65535 && card[2] == 0),
+        Input::NotACard | Input::Failed => assert!(rt; false),
+    }
+    assert!(rt; matches!(read_bytes(b"7 65536", &mut card), Input::NotACard));
+}
