@@ -2,7 +2,7 @@
  *
  * Link with the archive libsample_c.a (x86-64 Linux; of the C library it needs at most memset, memcpy
  * and memmove). The names of the refusals 4 to 10 are those of sidumza_generator.h: only names, so that the
- * archive libgenerator_c.a need not be linked.
+ * archive libgenerator_c.a need not be linked. There is no libsample_c.a yet: the crate that makes it is to come.
  */
 #ifndef SIDUMZA_SAMPLE_H
 #define SIDUMZA_SAMPLE_H

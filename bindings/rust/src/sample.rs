@@ -1,6 +1,6 @@
 //! A sample for a production: finds a shortest sentence of a grammar card that uses the production, or refuses.
 //!
-//! It is the archive `libsample_c.a`. `bindings/c/sidumza_sample.h` says what holds of a sample, and what to do about a
+//! It is the archive `libsample_c.a`, which cannot be made yet. `bindings/c/sidumza_sample.h` says what holds of a sample, and what to do about a
 //! refusal. The refusals 4 to 10 are those of [`generator`], whose archive is not needed.
 
 use crate::generator;
