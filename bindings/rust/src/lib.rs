@@ -7,8 +7,8 @@
 //! [`read_table`] reads a table from the text that `maketable` prints; [`entered`] gives the symbols under which its
 //! states are entered. With the feature `generator` the module `generator` makes tables; it needs the archive
 //! `libgenerator_c.a`. With the feature `merge` the module `merge` makes one card of two; it needs `libmerge_c.a`. With the
-//! feature `sample` the module `sample` finds a shortest sentence for a production; it needs `libsample_c.a`, which cannot be made yet. The feature
-//! `parser`, on where nothing else is said, is the parser.
+//! feature `sample` the module `sample` finds a shortest sentence for a production; it needs `libsample_c.a`, which cannot
+//! be made yet. The feature `parser`, on where nothing else is said, is the parser.
 
 #[cfg(any(feature = "generator", feature = "merge", feature = "sample"))]
 pub mod generator;
