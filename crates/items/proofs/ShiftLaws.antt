@@ -2,17 +2,14 @@
 use mathlib.Core.Bool.{Bool, true, false, not, ◌&&◌, ◌||◌, false≢true}
 use mathlib.Core.List.{List}
 use mathlib.Core.Logic.{⊎_elim}
-use mathlib.Core.Path.{◌≡◌, refl, sym, ap, ◌∙◌, subst}
+use mathlib.Core.Path.{◌≡◌, sym, ap, ◌∙◌, subst}
 use Prim.Native.Nat.{ℕ, zero, suc, ◌+◌, ◌-◌, ◌*◌, ◌/◌, ◌%◌, ◌^◌, ◌≤◌, ◌<◌}
 use native.Mathlib.Nat.{sub-zero}
-use native.Mathlib.Numerals.{add-one}
 use native.Mathlib.Omega.{arith}
 use lib.Bits.{bit_and, bit_or, and_le_l, and_mask}
 use lib.Dec.{eqb}
-use lib.ListN.{length, get_or, set, length-set, get_or-eq_default}
+use lib.ListN.{length, get_or, get_or-eq_default}
 use lib.Pow.{pow_pos}
-use lib.Seq.{get_or-set_same, get_or-set_other}
-use borrow.Author.Count.{below_more}
 use Rattle.items.proofs.NextLaws.{item_word}
 use Rattle.items.specs.Item.{item_limit, set_size, item, Shifted}
 use Rattle.sets.proofs.BitLaws.{bit_of_or, bit_of_and, bit_low, bit_suc, bit_zero, bit_above, bit_not, bit_shr}
@@ -47,21 +44,6 @@ pub record Shifting (a b t : List ℕ) (carry i : ℕ) : Type 0 where
   pub long : length t ≡ set_size
   pub done : (j : ℕ) → j < i → get_or t j 0 ≡ bit_or ((common a b j * 2 ^ 1) % 2 ^ 64) (carried a b j)
   pub next : carry ≡ carried a b i
-
-pub shift_start : (a b t : List ℕ) → length t ≡ set_size → Shifting a b t 0 0
-shift_start a b t l = record { most = omega arith; long = l; done = λ j h. absurd (let z : ⊥ = omega arith in z); next = refl }
-
-pub shift_more : (a b t : List ℕ) (carry i : ℕ) → Shifting a b t carry i → i < set_size
-    → Shifting a b (set t i (bit_or ((common a b i * 2 ^ 1) % 2 ^ 64) carry)) (common a b i / 2 ^ 63) (i + 1)
-shift_more a b t carry i s h =
-    let v = bit_or ((common a b i * 2 ^ 1) % 2 ^ 64) carry in
-    record {
-      most = omega arith;
-      long = simp length-set s.long;
-      done = below_more _ i (λ j l. get_or-set_other t i j v 0 (λ e. omega arith) ∙ s.done j l)
-          (get_or-set_same t i v 0 (omega (arith, s.long)) ∙ ap (bit_or ((common a b i * 2 ^ 1) % 2 ^ 64)) s.next);
-      next = rw (add-one i);
-    }
 
 module _ (a b t : List ℕ) (fits : (j : ℕ) → get_or a j 0 < 2 ^ 64) (carry : ℕ) (s : Shifting a b t carry set_size) where
   small : (j : ℕ) → common a b j < 2 ^ 64

@@ -1,7 +1,9 @@
 -- "A state is the set of its items": a set of item numbers as a list of words, 64 items to a word.
-use Rattle.std.specs.Prelude.{◌≡◌, List, [], ◌∷◌, Bool, true, false, ◌||◌, eqb, ℕ, ◌+◌, ◌*◌, ◌/◌, ◌%◌, ◌^◌, ◌≤◌, ◌<◌, get_or, set, replicate}
-use Rattle.std.specs.Int.Bits.{bit_or}
-use Rattle.sets.specs.Bit.{bit, Tells}
+use Rattle.std.specs.Prelude.{◌≡◌, List, Bool, true, false, ℕ, ◌+◌, ◌*◌, ◌≤◌, ◌<◌}
+use Rattle.sets.specs.Bit.{Tells}
+use Rattle.sets.specs.Words.{Empty as NoNumber}
+unfoldable pub use Rattle.sets.specs.Words.{item, put, union}
+pub use Rattle.sets.specs.Words.{Put, Union}
 
 -- the words of an item set, and what the numbers of items are below
 abbrev pub set_size : ℕ
@@ -10,34 +12,9 @@ set_size = 11
 abbrev pub item_limit : ℕ
 item_limit = 64 * set_size
 
--- whether item i is in the set
-unfoldable pub item : List ℕ → ℕ → Bool
-item ws i = bit (get_or ws (i / 64) 0) (i % 64)
-
--- the set, and item i
-unfoldable pub put : List ℕ → ℕ → List ℕ
-put ws i = set ws (i / 64) (bit_or (get_or ws (i / 64) 0) (2 ^ (i % 64)))
-
--- word by word
-unfoldable pub union : List ℕ → List ℕ → List ℕ
-union (a ∷ l) (b ∷ m) = bit_or a b ∷ union l m
-union (a ∷ l) [] = a ∷ l
-union [] m = m
-
--- r is s and item i
-pub record Put (s : List ℕ) (i : ℕ) (r : List ℕ) : Type 0 where
-  pub words : r ≡ put s i
-  pub items : (k : ℕ) → item r k ≡ (item s k || eqb i k)
-
 -- r has no item
-pub record Empty (r : List ℕ) : Type 0 where
-  pub words : r ≡ replicate set_size 0
-  pub items : (k : ℕ) → item r k ≡ false
-
--- r is what is in a or in b
-pub record Union (a b r : List ℕ) : Type 0 where
-  pub words : r ≡ union a b
-  pub items : (k : ℕ) → item r k ≡ (item a k || item b k)
+abbrev pub Empty : List ℕ → Type 0
+Empty r = NoNumber set_size r
 
 -- r says whether a and b are the same set: the same words, and the same items
 pub record Same (a b : List ℕ) (r : Bool) : Type 0 where

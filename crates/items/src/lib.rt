@@ -1,9 +1,11 @@
-// Item sets: an array of 11 words by value, bit i for item i.
+// Item sets: sets of numbers in 11 words (`sets::words`), number i for item i.
 #![tactic(auto)]
 
 ghost use Rattle.std.specs.Prelude.{◌≡◌, ◌+◌, ◌≤◌, ◌<◌, length, take, drop};
 ghost use Rattle.std.proofs.Math.Seq.{paste};
 ghost use Rattle.items.specs.Item.{set_size, item_limit, Put, Empty, Next, Union, Same, Shifted};
+
+use sets::words;
 
 // The words of an item set, and what the numbers of items are below.
 pub const SIZE: usize = 11;
@@ -14,7 +16,7 @@ pub const LIMIT: usize = 64 * SIZE;
 pub fn empty() -> [u64; 11]
     ensures { Empty result }
 {
-    [0u64; 11]
+    words::empty()
 }
 
 // s and item i.
@@ -22,22 +24,14 @@ pub fn with(s: [u64; 11], i: usize) -> [u64; 11]
     requires { i < item_limit }
     ensures { Put s i result }
 {
-    let mut t = s;
-    t[i / 64] = t[i / 64] | (1 << (i % 64));
-    t
+    words::with(s, i)
 }
 
 // What is in a or in b.
 pub fn join(a: [u64; 11], b: [u64; 11]) -> [u64; 11]
     ensures { Union a b result }
 {
-    let mut t = a;
-    let mut i = 0;
-    while i < SIZE {
-        t[i] = t[i] | b[i];
-        i += 1;
-    }
-    t
+    words::join(a, b)
 }
 
 // The set that stands at a place.
@@ -46,11 +40,7 @@ pub fn load(d: &[u64], at: usize) -> [u64; 11]
     ensures { result ≡ take set_size (drop at d.now) }
 {
     let mut t = [0u64; 11];
-    let mut i = 0;
-    while i < SIZE {
-        t[i] = d[at + i];
-        i += 1;
-    }
+    t.copy_from_slice(&d[at..at + SIZE]);
     t
 }
 
@@ -59,11 +49,7 @@ pub fn store(d: &mut [u64], at: usize, s: [u64; 11])
     requires { at + set_size ≤ length d.old }
     ensures { d.new ≡ paste d.old at s set_size }
 {
-    let mut i = 0;
-    while i < SIZE {
-        d[at + i] = s[i];
-        i += 1;
-    }
+    d[at..at + SIZE].copy_from_slice(&s);
 }
 
 // Whether s is the set that stands at a place.
@@ -71,14 +57,7 @@ pub fn is_at(s: [u64; 11], d: &[u64], at: usize) -> bool
     requires { at + set_size ≤ length d.now }
     ensures { Same (take set_size (drop at d.now)) s result }
 {
-    let mut i = 0;
-    while i < SIZE {
-        if d[at + i] != s[i] {
-            return false;
-        }
-        i += 1;
-    }
-    true
+    d[at..at + SIZE] == s[..]
 }
 
 // The numbers after those that are in s and in m.
@@ -87,12 +66,10 @@ pub fn advance(s: [u64; 11], m: [u64; 11]) -> [u64; 11]
 {
     let mut t = [0u64; 11];
     let mut carry: u64 = 0;
-    let mut i = 0;
-    while i < SIZE {
+    for i in 0..SIZE {
         let v = s[i] & m[i];
         t[i] = (v << 1) | carry;
         carry = v >> 63;
-        i += 1;
     }
     t
 }
@@ -102,21 +79,5 @@ pub fn next(s: [u64; 11], from: usize) -> usize
     requires { from ≤ item_limit }
     ensures { Next s from result }
 {
-    let mut k = from / 64;
-    if k == SIZE {
-        return LIMIT;
-    }
-    let w = s[k] >> (from % 64);
-    if w != 0 {
-        return from + u64::trailing_zeros(w) as usize;
-    }
-    k += 1;
-    while k < SIZE {
-        let v = s[k];
-        if v != 0 {
-            return k * 64 + u64::trailing_zeros(v) as usize;
-        }
-        k += 1;
-    }
-    LIMIT
+    words::next(s, from).unwrap_or(LIMIT)
 }

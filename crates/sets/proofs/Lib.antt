@@ -5,3 +5,4 @@ pub mod TestLaws
 pub mod ListLaws
 pub mod CoveredLaws
 pub mod MemberLaws
+pub mod WordLaws
