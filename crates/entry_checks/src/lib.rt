@@ -1,121 +1,106 @@
 // The reader's check of the entries of a table's states: 44.
 #![tactic(auto)]
 
-ghost use Rattle.std.specs.Prelude.{◌≡◌, ◌+◌, ◌<◌, ◌≤◌, length, get_or};
+ghost use Rattle.std.specs.Prelude.{◌≡◌, ◌+◌, ◌^◌, ◌<◌, length, get_or};
 ghost use Rattle.sets.specs.Tests.{all_below};
 ghost use Rattle.tables.specs.Layout.{states};
 ghost use Rattle.machine.specs.Checks.{entry_ok, names_ok, row_names_ok, entries_ok};
 ghost use Rattle.cell_checks.specs.Rows.{Whole};
 ghost use Rattle.entry_checks.specs.Names.{unnamed};
 
-use cell_checks::{both, either};
 use tables::Shape;
 
 // Whether the entry of each state is a symbol.
+#[tactic(auto, using(sets::proofs::TestLaws::all_step), unfolding(sets::specs::Tests::all_below, machine::specs::Checks::entry_ok))]
 fn entries_below(t: &[u16], z: Shape) -> bool
     requires { Whole t.now z }
     ensures { result ≡ all_below (states t.now) (entry_ok t.now) }
 {
-    let entries = z.states;
     let w = z.width as u16;
     let mut ok = true;
-    let mut q: usize = 0;
-    while q < entries {
-        ok = both(ok, tables::entered(t, z, q) < w);
-        q += 1;
+    for q in 0..z.states {
+        ok &= tables::entered(t, z, q) < w;
     }
     ok
 }
 
-// Whether none of n cells from place from on names a state below q.
-fn none_named(t: &[u16], from: usize, n: usize, q: u16) -> bool
-    requires { from + n ≤ length t.now }
-    ensures { result ≡ all_below n (λ i. unnamed q (get_or t.now (from + i) 0)) }
+// Whether none of these cells names a state below q.
+#[tactic(auto, using(sets::proofs::TestLaws::all_step), unfolding(sets::specs::Tests::all_below, crate::specs::Names::unnamed))]
+fn none_named(cells: &[u16], q: u16) -> bool
+    ensures { result ≡ all_below (length cells.now) (λ i. unnamed q (get_or cells.now i 0)) }
 {
     let mut ok = true;
-    let mut i: usize = 0;
-    while i < n {
-        let v = t[from + i];
-        ok = both(ok, either(v == 0, q <= v));
-        i += 1;
+    for &v in cells {
+        ok &= (v == 0) | (q <= v);
     }
     ok
 }
 
 // Whether cell v of column x names no state, or one that is entered under x.
+#[tactic(auto, unfolding(machine::specs::Checks::names_ok))]
 fn name_ok(t: &[u16], z: Shape, x: usize, v: u16) -> bool
     requires { Whole t.now z }
     ensures { result ≡ names_ok t.now x v }
 {
     let q = v as usize;
-    if either(q == 0, z.states <= q) {
-        true
-    } else {
-        tables::entered(t, z, q) as usize == x
-    }
+    q == 0 || z.states <= q || tables::entered(t, z, q) as usize == x
 }
 
-// The same of n cells of a row that begins at place from, column x being the first.
-fn names_ok(t: &[u16], z: Shape, from: usize, x: usize, n: usize) -> bool
-    requires { (Whole t.now z) × (from + (x + n) ≤ length t.now) }
-    ensures { result ≡ all_below n (λ i. names_ok t.now (x + i) (get_or t.now (from + (x + i)) 0)) }
+// The same of cells of a row, column x being the first.
+#[tactic(auto, using(sets::proofs::TestLaws::all_more), unfolding(sets::specs::Tests::all_below))]
+fn names_ok(t: &[u16], z: Shape, cells: &[u16], x: usize) -> bool
+    requires { (Whole t.now z) × (x + length cells.now < 2 ^ 64) }
+    ensures { result ≡ all_below (length cells.now) (λ i. names_ok t.now (x + i) (get_or cells.now i 0)) }
 {
-    let mut i: usize = 0;
-    while i < n {
-        let y = x + i;
-        if !name_ok(t, z, y, t[from + y]) {
+    for (i, &v) in cells.iter().enumerate() {
+        if !name_ok(t, z, x + i, v) {
             return false;
         }
-        i += 1;
     }
     true
 }
 
-// The same of 8 cells: most name no state, which one comparison of all tells. A second caller would keep it from being inlined.
-fn part_ok(t: &[u16], z: Shape, from: usize, x: usize) -> bool
-    requires { (Whole t.now z) × (from + (x + 8) ≤ length t.now) }
-    ensures { result ≡ all_below 8 (λ i. names_ok t.now (x + i) (get_or t.now (from + (x + i)) 0)) }
+// The same, at 8 cells: most name no state, which one comparison of all tells. A second caller would keep it from being inlined.
+fn part_ok(t: &[u16], z: Shape, cells: &[u16], x: usize) -> bool
+    requires { (Whole t.now z) × (x + length cells.now < 2 ^ 64) }
+    ensures { result ≡ all_below (length cells.now) (λ i. names_ok t.now (x + i) (get_or cells.now i 0)) }
 {
-    if none_named(t, from + x, 8, z.states as u16) {
-        true
-    } else {
-        names_ok(t, z, from, x, 8)
-    }
+    none_named(cells, z.states as u16) || names_ok(t, z, cells, x)
 }
 
 // The same of row q, eight cells at a time.
+#[tactic(auto, using(cell_checks::proofs::RowLaws::row_bounds, cell_checks::proofs::RowLaws::row_long), unfolding(sets::specs::Tests::all_below))]
 fn row_names_ok(t: &[u16], z: Shape, q: usize) -> bool
     requires { (Whole t.now z) × (q < states t.now) }
     ensures { result ≡ row_names_ok t.now q }
 {
     let from = z.cells + q * z.width;
-    let n = z.width;
+    let row = &t[from..from + z.width];
     let mut x: usize = 0;
-    while x + 8 <= n {
-        if !part_ok(t, z, from, x) {
+    while x + 8 <= row.len() {
+        if !part_ok(t, z, &row[x..x + 8], x) {
             return false;
         }
         x += 8;
     }
-    names_ok(t, z, from, x, n - x)
+    names_ok(t, z, &row[x..], x)
 }
 
 // The same of all rows. With a way out at the first wrong row the parser's loop, compiled into one function with this, took 3 % more time.
+#[tactic(auto, using(sets::proofs::TestLaws::all_step), unfolding(sets::specs::Tests::all_below))]
 fn rows_names_ok(t: &[u16], z: Shape) -> bool
     requires { Whole t.now z }
     ensures { result ≡ all_below (states t.now) (row_names_ok t.now) }
 {
-    let rows = z.states;
     let mut ok = true;
-    let mut q: usize = 0;
-    while q < rows {
-        ok = both(ok, row_names_ok(t, z, q));
-        q += 1;
+    for q in 0..z.states {
+        ok &= row_names_ok(t, z, q);
     }
     ok
 }
 
 // Whether 44 does not apply.
+#[tactic(auto, unfolding(machine::specs::Checks::entries_ok))]
 pub fn entries_ok(t: &[u16], z: Shape) -> bool
     requires { Whole t.now z }
     ensures { result ≡ entries_ok t.now }
@@ -123,5 +108,5 @@ pub fn entries_ok(t: &[u16], z: Shape) -> bool
     let below = entries_below(t, z);
     let first = tables::entered(t, z, 0) == 0;
     let names = rows_names_ok(t, z);
-    both(below, both(first, names))
+    below & first & names
 }

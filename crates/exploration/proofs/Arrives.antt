@@ -18,8 +18,8 @@ use Rattle.machine.proofs.Shifts.{Below}
 use Rattle.unlisted_steps.specs.Spot.{Readable, Stands, Standing, Shifts, Reduces}
 use Rattle.unlisted_steps.specs.declared.Spot.{Spot}
 use Rattle.machine.proofs.Shifts.{below_top}
-use Rattle.unlisted_steps.specs.declared.Next.{Next}
-use Rattle.unlisted_steps.specs.declared.Next.TheVariants.{Moved}
+use Rattle.std.specs.Prelude.{Result, Ok, Err}
+use Rattle.unlisted_steps.specs.declared.Stop.{Stop}
 use Rattle.exploration.specs.Reaches.{Reaches}
 use Rattle.exploration.specs.Phases.{NoneFollows, CutFor}
 use Rattle.exploration.proofs.Fresh.{alone, comes_start, stops_spent, explored, cut_for}
@@ -39,10 +39,6 @@ reaches_start pa line (a ∷ st) limit h = record {
   comes = λ y. comes_start (line ++ y) (omega arith);
 }
 
--- the places are those of the area
-pub reaches_in : {t line st ahead : List ℕ} {limit places : ℕ} {s : Spot} → Reaches t limit places line st ahead s → Reaches t limit (length st) line st ahead s
-reaches_in r = rw r.long r
-
 -- ---- with a terminal x of the line ahead
 
 module _ {t line st ahead : List ℕ} {limit places x : ℕ} {s : Spot} (r : Reaches t limit places line st (x ∷ ahead) s) where
@@ -56,7 +52,7 @@ module _ {t line st ahead : List ℕ} {limit places x : ℕ} {s : Spot} (r : Rea
   spent_here n e = cut_here (stops_spent (r.comes []) n e) no_steps_left
 
   module _ {st' : List ℕ} (long : length st' ≡ length st) (more : 0 < s.left) where
-    shift_next : {a : ℕ} {y : Next} {n : Spot} → cell_of t r.state x ≡ a → 0 < a → a < 1024 → Shifts t st' s r.state r.under a y → y ≡ Moved n
+    shift_next : {a : ℕ} {y : Result Spot Stop} {n : Spot} → cell_of t r.state x ≡ a → 0 < a → a < 1024 → Shifts t st' s r.state r.under a y → y ≡ Ok n
         → Reaches t limit places line st' ahead n × (n.left < s.left)
     shift_next {a} e h k d ey =
         let z = shifted d ey in (
@@ -71,10 +67,10 @@ module _ {t line st ahead : List ℕ} {limit places x : ℕ} {s : Spot} (r : Rea
           omega (arith, z.1),
         )
 
-    shift_cut : {a : ℕ} {y : Next} → cell_of t r.state x ≡ a → 0 < a → a < 1024 → Shifts t st' s r.state r.under a y → ((n : Spot) → y ≡ Moved n → ⊥) → CutFor t limit places line 0
-    shift_cut e h k d nm = let w = shift_stops s (r.comes []) (long ∙ r.long) e h k more d nm in cut_here w.stops w.cut
+    shift_cut : {a : ℕ} {y : Result Spot Stop} → cell_of t r.state x ≡ a → 0 < a → a < 1024 → Shifts t st' s r.state r.under a y → {g : Stop} → y ≡ Err g → CutFor t limit places line 0
+    shift_cut e h k d ey = let w = shift_stops s (r.comes []) (long ∙ r.long) e h k more d ey in cut_here w.stops w.cut
 
-    reduce_next : {p : ℕ} {y : Next} {n : Spot} → cell_of t r.state x ≡ reduction p → reduction p ≢ accept → Reduces t st' s r.state r.under p y → y ≡ Moved n
+    reduce_next : {p : ℕ} {y : Result Spot Stop} {n : Spot} → cell_of t r.state x ≡ reduction p → reduction p ≢ accept → Reduces t st' s r.state r.under p y → y ≡ Ok n
         → Reaches t limit places line st' (x ∷ ahead) n × (n.left < s.left)
     reduce_next {p} e ne d ey =
         let z = reduced d ey in (
@@ -89,8 +85,8 @@ module _ {t line st ahead : List ℕ} {limit places x : ℕ} {s : Spot} (r : Rea
           omega (arith, z.less),
         )
 
-    reduce_cut : {p : ℕ} {y : Next} → cell_of t r.state x ≡ reduction p → reduction p ≢ accept → Reduces t st' s r.state r.under p y → ((n : Spot) → y ≡ Moved n → ⊥) → CutFor t limit places line 0
-    reduce_cut e ne d nm = let w = reduce_stops s (r.comes []) (long ∙ r.long) e ne more d nm in cut_here w.stops w.cut
+    reduce_cut : {p : ℕ} {y : Result Spot Stop} → cell_of t r.state x ≡ reduction p → reduction p ≢ accept → Reduces t st' s r.state r.under p y → {g : Stop} → y ≡ Err g → CutFor t limit places line 0
+    reduce_cut e ne d ey = let w = reduce_stops s (r.comes []) (long ∙ r.long) e ne more d ey in cut_here w.stops w.cut
 
 -- ---- in the loop
 
@@ -126,18 +122,18 @@ module _ {t line cs st : List ℕ} {limit places i : ℕ} {z : Shape} {s : Spot}
       spent_ends n = spent_here here (λ y. nz (sym cell ∙ y)) n
 
       module _ (more : s.left ≡ 0 → ⊥) where
-        module _ (k : a < 1024) {y : Next} {st' : List ℕ} (long : length st' ≡ length st)
+        module _ (k : a < 1024) {y : Result Spot Stop} {st' : List ℕ} (long : length st' ≡ length st)
             (f : (t : List ℕ) (q : ℕ) (qs : List ℕ) → Stands t st s q qs → a < states t → Shifts t st' s q qs a y) where
           shift_does : Shifts t st' s here.state here.under a y
           shift_does =
               f t _ _ here.stands
               (rw (← cell) (shift_passed rd.checked here.state (get_or line i 0) top_in next.1 (omega (arith, nz, cell)) (omega (arith, cell))).0)
 
-          pub shift_goes : {n : Spot} → y ≡ Moved n → Reaches t limit places line st' (drop (i + 1) line) n × (n.left < s.left)
+          pub shift_goes : {n : Spot} → y ≡ Ok n → Reaches t limit places line st' (drop (i + 1) line) n × (n.left < s.left)
           shift_goes ey = shift_next here long (omega (arith, more)) cell (omega (arith, nz)) k shift_does ey
 
-          pub shift_ends : ((n : Spot) → y ≡ Moved n → ⊥) → CutFor t limit places line 0
-          shift_ends nm = shift_cut here long (omega (arith, more)) cell (omega (arith, nz)) k shift_does nm
+          pub shift_ends : {g : Stop} → y ≡ Err g → CutFor t limit places line 0
+          shift_ends ey = shift_cut here long (omega (arith, more)) cell (omega (arith, nz)) k shift_does ey
 
         module _ (k : 1024 ≤ a) where
           by : reduction (a - 1024) ≡ a
@@ -154,11 +150,11 @@ module _ {t line cs st : List ℕ} {limit places i : ℕ} {z : Shape} {s : Spot}
             omega (arith, more),
           )
 
-          module _ {y : Next} {st' : List ℕ} (long : length st' ≡ length st) (f : (q : ℕ) (qs : List ℕ) → Stands t st s q qs → Reduces t st' s q qs (a - 1024) y) where
-            pub reduce_goes : {n : Spot} → y ≡ Moved n → Reaches t limit places line st' (drop i line) n × (n.left < s.left)
+          module _ {y : Result Spot Stop} {st' : List ℕ} (long : length st' ≡ length st) (f : (q : ℕ) (qs : List ℕ) → Stands t st s q qs → Reduces t st' s q qs (a - 1024) y) where
+            pub reduce_goes : {n : Spot} → y ≡ Ok n → Reaches t limit places line st' (drop i line) n × (n.left < s.left)
             reduce_goes ey =
                 let g = reduce_next here long (omega (arith, more)) (cell ∙ sym by) (λ y. not_accept (sym by ∙ y)) (f _ _ here.stands) ey in
                 (rw (← drop_next line i h) at g.0, g.1)
 
-            pub reduce_ends : ((n : Spot) → y ≡ Moved n → ⊥) → CutFor t limit places line 0
-            reduce_ends nm = reduce_cut here long (omega (arith, more)) (cell ∙ sym by) (λ y. not_accept (sym by ∙ y)) (f _ _ here.stands) nm
+            pub reduce_ends : {g : Stop} → y ≡ Err g → CutFor t limit places line 0
+            reduce_ends ey = reduce_cut here long (omega (arith, more)) (cell ∙ sym by) (λ y. not_accept (sym by ∙ y)) (f _ _ here.stands) ey

@@ -2,7 +2,7 @@
 use Prim.Native.Nat.{ℕ, ◌^◌, ◌<◌}
 use mathlib.Core.Path.{◌≡◌, refl, sym, ap, ◌∙◌}
 use mathlib.Core.Bool.{Bool, true, false, not, false≢true}
-use mathlib.Core.Logic.{◌↔◌, ◌⊎◌, inl, inr, ⊎_elim}
+use mathlib.Core.Logic.{◌⊎◌, inl, inr, ⊎_elim}
 use mathlib.Core.List.{List}
 use native.Mathlib.Omega.{arith}
 use lib.Dec.{lit<}
@@ -40,16 +40,6 @@ open_cut {t} {line} {closed} {limit} {places} {todo} pa ok f = go
     go (behind_line {m} h c) = cut_of m (f m h).0 (f m h).1 c
 
 -- ---- between passes
-
--- the first pass is over the open terminals
-pub deciding_first : {t line : List ℕ} {closed limit places todo found later : ℕ} → ((m : ℕ) → Has todo m ↔ ((m < terminals t) × Open closed m)) → Decides t limit places line todo found later
-    → later < 2 ^ 64 → Deciding t closed limit places line later found
-deciding_first a p f = record {
-  fits = f;
-  unclosed = λ m h. (a m).0 (p.behind m h).0;
-  offered = λ m h. let o = p.offered m h in let b = (a m).0 o.0 in (b.0, b.1, o.1);
-  left_out = λ m h o n l. p.left_out m ((a m).1 (h, o)) n l;
-}
 
 module _ {t line : List ℕ} {closed limit places todo found found' later : ℕ} (d : Deciding t closed limit places line todo found) (p : Decides t limit places line todo found' later) where
   -- the lowest is not left

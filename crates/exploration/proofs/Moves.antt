@@ -1,7 +1,7 @@
 -- What a shift or a reduction on the second area makes of a fresh reading.
 use Prim.Native.Nat.{ℕ, ◌+◌, ◌<◌, ◌≤◌}
-use mathlib.Core.Path.{◌≡◌, refl, ap}
-use mathlib.Core.Logic.{◌≢◌, ◌⊎◌, ⊎_elim}
+use mathlib.Core.Path.{◌≡◌, refl}
+use mathlib.Core.Logic.{◌≢◌}
 use mathlib.Core.List.{List, [], ◌∷◌, ◌++◌}
 use lib.ListN.{length, drop}
 use native.Mathlib.Omega.{arith}
@@ -12,10 +12,8 @@ use Rattle.machine.specs.Exploration.{Comes, unlisted, Cut, no_place_left, broke
 use Rattle.machine.proofs.LrMachineLaws.{conf, Step}
 use Rattle.unlisted_steps.specs.Spot.{Stands, Shifts, Reduces}
 use Rattle.unlisted_steps.specs.declared.Spot.{Spot}
-use Rattle.unlisted_steps.specs.declared.Next.{Next}
-use Rattle.unlisted_steps.specs.declared.Next.TheVariants.{Moved, Full, Broken}
-use Rattle.unlisted_steps.specs.contracts.Next.{the_type}
-use denote.Enum.Declared.{tag_of}
+use Rattle.std.specs.Prelude.{Result, Ok, Err}
+use Rattle.unlisted_steps.specs.declared.Stop.{Stop}
 use Rattle.exploration.proofs.Fresh.{comes_step, stops_full, stops_broken}
 
 -- the fresh reading is cut short here
@@ -33,28 +31,16 @@ pub record Reduced (t st : List ℕ) (s : Spot) (q : ℕ) (qs : List ℕ) (r : �
   pub stands : Stands t st n (cell_of t under (left_of t r)) (under ∷ below)
   pub less : n.left + 1 ≡ s.left
 
-moved_same : {m n : Spot} → Moved m ≡ Moved n → m ≡ n
-moved_same e = cc
-
-full_apart : {A : Type 0} {n : Spot} → Full ≡ Moved n → A
-full_apart e = let z : ◌≡◌ {A = ℕ} 0 1 = cc in absurd (omega arith)
-
-broken_apart : {A : Type 0} {n : Spot} → Broken ≡ Moved n → A
-broken_apart e = let z : ◌≡◌ {A = ℕ} 0 1 = cc in absurd (omega arith)
-
--- the tag of a match that goes on with what is not `Moved`
-pub not_moved : (x : Next) → (tag_of the_type x ≡ 1) ⊎ (tag_of the_type x ≡ 2) → (n : Spot) → x ≡ Moved n → ⊥
-not_moved x k n e = ⊎_elim (λ (z : tag_of the_type x ≡ 1). omega (arith, z, ap (tag_of the_type) e)) (λ (z : tag_of the_type x ≡ 2). omega (arith, z, ap (tag_of the_type) e)) k
-
 module _ {t st : List ℕ} {s : Spot} {q : ℕ} {qs : List ℕ} where
-  pub shifted : {a : ℕ} {x : Next} {n : Spot} → Shifts t st s q qs a x → x ≡ Moved n → Stands t st n a (q ∷ qs) × (n.left + 1 ≡ s.left)
-  shifted (Shifts.moved h l) e = rw (← moved_same e) (h, l)
-  shifted (Shifts.full h) e = full_apart e
+  pub shifted : {a : ℕ} {x : Result Spot Stop} {n : Spot} → Shifts t st s q qs a x → x ≡ Ok n → Stands t st n a (q ∷ qs) × (n.left + 1 ≡ s.left)
+  shifted {n = n} (Shifts.moved {n = m} h l) e = let z : m ≡ n = cc in rw (← z) (h, l)
+  shifted (Shifts.full h) e = cc
 
-  pub reduced : {r : ℕ} {x : Next} {n : Spot} → Reduces t st s q qs r x → x ≡ Moved n → Reduced t st s q qs r n
-  reduced (Reduces.moved p ps d z h l) e = rw (← moved_same e) (record { under = p; below = ps; popped = d; some = z; stands = h; less = l })
-  reduced (Reduces.full p ps d z h) e = full_apart e
-  reduced (Reduces.broken b) e = broken_apart e
+  pub reduced : {r : ℕ} {x : Result Spot Stop} {n : Spot} → Reduces t st s q qs r x → x ≡ Ok n → Reduced t st s q qs r n
+  reduced {n = n} (Reduces.moved {n = m} p ps d z h l) e =
+      let y : m ≡ n = cc in rw (← y) (record { under = p; below = ps; popped = d; some = z; stands = h; less = l })
+  reduced (Reduces.full p ps d z h) e = cc
+  reduced (Reduces.broken b) e = cc
 
 within : {t st : List ℕ} {places : ℕ} {n : Spot} {p : ℕ} {ps : List ℕ} → length st ≡ places → Stands t st n p ps → length (p ∷ ps) ≤ places
 within long h = omega (arith, h.deep, h.within)
@@ -64,10 +50,10 @@ module _ {t st : List ℕ} (s : Spot) {q : ℕ} {qs : List ℕ} {limit places : 
       → Comes t limit places input (conf (a ∷ q ∷ qs) (rest x) out) n.left
   shift_comes {a} e h k d l = comes_step f (Step.shift a e h k) (within long d) l
 
-  pub shift_stops : {a : ℕ} {y : Next} → cell_of t q (peek x) ≡ a → 0 < a → a < 1024 → 0 < s.left → Shifts t st s q qs a y → ((n : Spot) → y ≡ Moved n → ⊥)
+  pub shift_stops : {a : ℕ} {y : Result Spot Stop} → cell_of t q (peek x) ≡ a → 0 < a → a < 1024 → 0 < s.left → Shifts t st s q qs a y → {g : Stop} → y ≡ Err g
       → Stopped t limit places s.left q qs x out
-  shift_stops e h k more (Shifts.moved {n = m} _ _) nm = absurd (nm m refl)
-  shift_stops {a} e h k more (Shifts.full z) nm =
+  shift_stops e h k more (Shifts.moved _ _) z = cc
+  shift_stops {a} e h k more (Shifts.full z) _ =
       record { number = 33; stops = stops_full f (Step.shift a e h k) more (omega (arith, z, long)); cut = no_place_left }
 
   module _ {r : ℕ} (e : cell_of t q (peek x) ≡ reduction r) (ne : reduction r ≢ accept) where
@@ -75,8 +61,8 @@ module _ {t st : List ℕ} (s : Spot) {q : ℕ} {qs : List ℕ} {limit places : 
         → Comes t limit places input (conf (cell_of t d.under (left_of t r) ∷ d.under ∷ d.below) x (out ++ r ∷ [])) n.left
     reduce_comes d = comes_step f (Step.reduce r d.under d.below _ e ne d.popped refl d.some) (within long d.stands) d.less
 
-    pub reduce_stops : {y : Next} → 0 < s.left → Reduces t st s q qs r y → ((n : Spot) → y ≡ Moved n → ⊥) → Stopped t limit places s.left q qs x out
-    reduce_stops more (Reduces.moved {n = m} _ _ _ _ _ _) nm = absurd (nm m refl)
-    reduce_stops more (Reduces.full p ps d z h) nm =
+    pub reduce_stops : {y : Result Spot Stop} → 0 < s.left → Reduces t st s q qs r y → {g : Stop} → y ≡ Err g → Stopped t limit places s.left q qs x out
+    reduce_stops more (Reduces.moved _ _ _ _ _ _) y = cc
+    reduce_stops more (Reduces.full p ps d z h) _ =
         record { number = 33; stops = stops_full f (Step.reduce r p ps _ e ne d refl z) more (omega (arith, h, long)); cut = no_place_left }
-    reduce_stops more (Reduces.broken b) nm = record { number = 35; stops = stops_broken f r e ne b more; cut = broken_off }
+    reduce_stops more (Reduces.broken b) _ = record { number = 35; stops = stops_broken f r e ne b more; cut = broken_off }

@@ -19,8 +19,8 @@ use Rattle.machine.proofs.LrMachineLaws.{conf, Step, accepts, wrong}
 use Rattle.unlisted_steps.specs.Spot.{Readable, Stands, Standing, Reduces}
 use Rattle.unlisted_steps.specs.declared.Spot.{Spot}
 use Rattle.machine.proofs.Shifts.{below_top}
-use Rattle.unlisted_steps.specs.declared.Next.{Next}
-use Rattle.unlisted_steps.specs.declared.Next.TheVariants.{Moved}
+use Rattle.std.specs.Prelude.{Result, Ok, Err}
+use Rattle.unlisted_steps.specs.declared.Stop.{Stop}
 use Rattle.exploration.specs.Reaches.{Reaches}
 use Rattle.exploration.specs.Phases.{Short, no_steps, no_place, Found, Apart, Stuck, Decides, PassCut, behind_line}
 use Rattle.exploration.specs.declared.Sorted.{Sorted}
@@ -153,8 +153,8 @@ module _ {t line cs st : List ℕ} {limit places todo : ℕ} {z : Shape} {s : Sp
         let b = reduce_passed rd.checked p.state first.0 top_in (small _ (p.member _ first.1)) (omega (arith, e)) (λ y. asked.2 (sym e ∙ y)) in
         (rd, record { state = _; under = _; stands = p.stands }, omega (arith, b, e), asked.0)
 
-    module _ {y : Next} {st' : List ℕ} (long : length st' ≡ length st) (f : (q : ℕ) (qs : List ℕ) → Stands t st s q qs → Reduces t st' s q qs r y) where
-      all_go : {n : Spot} → y ≡ Moved n → Passing t limit places line todo st' n group found later × (n.left < s.left)
+    module _ {y : Result Spot Stop} {st' : List ℕ} (long : length st' ≡ length st) (f : (q : ℕ) (qs : List ℕ) → Stands t st s q qs → Reduces t st' s q qs r y) where
+      all_go : {n : Spot} → y ≡ Ok n → Passing t limit places line todo st' n group found later × (n.left < s.left)
       all_go ey =
           let d = reduced (f _ _ p.stands) ey in (
             record {
@@ -172,9 +172,9 @@ module _ {t line cs st : List ℕ} {limit places todo : ℕ} {z : Shape} {s : Sp
             omega (arith, d.less),
           )
 
-      all_cut : ((n : Spot) → y ≡ Moved n → ⊥) → PassCut t limit places line todo
-      all_cut nm =
-          let w = reduce_stops s (p.comes _ first.1) (long ∙ p.long) (cell first.0 first.1 asked.1) asked.2 asked.0 (f _ _ p.stands) nm in
+      all_cut : {g : Stop} → y ≡ Err g → PassCut t limit places line todo
+      all_cut ey =
+          let w = reduce_stops s (p.comes _ first.1) (long ∙ p.long) (cell first.0 first.1 asked.1) asked.2 asked.0 (f _ _ p.stands) ey in
           cut_at first.0 first.1 w.stops w.cut
 
 -- after the group is sorted
@@ -195,9 +195,9 @@ module _ {t line cs st : List ℕ} {limit places todo : ℕ} {z : Shape} {s : Sp
     pub pass_asks : Readable t cs z × Standing t st s × (x.production < productions t) × (0 < s.left)
     pass_asks = all_ask rd small sorted x.production asks some fits
 
-    module _ {y : Next} {st' : List ℕ} (long : length st' ≡ length st) (f : (q : ℕ) (qs : List ℕ) → Stands t st s q qs → Reduces t st' s q qs x.production y) where
-      pub pass_goes : {n : Spot} → y ≡ Moved n → Passing t limit places line todo st' n x.same found' later' × (n.left < s.left)
+    module _ {y : Result Spot Stop} {st' : List ℕ} (long : length st' ≡ length st) (f : (q : ℕ) (qs : List ℕ) → Stands t st s q qs → Reduces t st' s q qs x.production y) where
+      pub pass_goes : {n : Spot} → y ≡ Ok n → Passing t limit places line todo st' n x.same found' later' × (n.left < s.left)
       pass_goes ey = all_go rd small sorted x.production asks some fits long f ey
 
-      pub pass_cut : ((n : Spot) → y ≡ Moved n → ⊥) → PassCut t limit places line todo
-      pass_cut nm = all_cut rd small sorted x.production asks some fits long f nm
+      pub pass_cut : {g : Stop} → y ≡ Err g → PassCut t limit places line todo
+      pass_cut ey = all_cut rd small sorted x.production asks some fits long f ey

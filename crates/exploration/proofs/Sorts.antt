@@ -1,40 +1,21 @@
 -- What the loop of `sort` keeps, and the laws of its parts.
 use Prim.Native.Nat.{ℕ, ◌-◌, ◌^◌, ◌<◌, ◌≤◌}
 use mathlib.Core.Path.{◌≡◌, refl, sym, ap, ◌∙◌}
-use mathlib.Core.Bool.{Bool, true, false, false≢true}
+use mathlib.Core.Bool.{Bool, false, false≢true}
 use mathlib.Core.Logic.{◌≢◌, ◌⊎◌, inl, inr, ⊎_elim}
 use native.Mathlib.Omega.{arith}
-use lib.Dec.{leb}
 use lib.Bits.{bit_or}
-use borrow.Author.Tests.{leb-true, le-leb}
 use Rattle.sets.specs.Bit.{Has, Tells, Lowest, Rest}
 use Rattle.sets.proofs.HasLaws.{lt_or_ge, eq_or, has_none, has_one, one_has, has_or, or_has_l, or_has_r}
 use Rattle.tables.specs.Layout.{reduction, accept}
 use Rattle.unlisted_steps.specs.declared.Spot.{Spot}
-use Rattle.exploration.specs.Phases.{Short, no_steps, no_place, Puts, Found, Apart, Stuck}
+use Rattle.exploration.specs.Phases.{Short, no_steps, no_place, Puts, Found, Apart}
 use Rattle.exploration.specs.declared.Sorted.{Sorted}
 use Rattle.exploration.proofs.Words.{rest_less, rest_has, rest_above, rest_or}
 
 -- ---- `short`
 
 module _ (s : Spot) (places a : ℕ) where
-  pub short_spent : s.left ≡ 0 → Tells true (Short s places a)
-  short_spent e = record { yes = λ _. no_steps e; so = λ _. refl }
-
-  pub short_shift : (s.left ≡ 0 → ⊥) → a < 1024 → Tells (leb places s.depth) (Short s places a)
-  short_shift n h = record { yes = λ e. no_place (omega (arith, n)) h (leb-true places s.depth e); so = so }
-    where
-      so : Short s places a → leb places s.depth ≡ true
-      so (no_steps e) = absurd (n e)
-      so (no_place _ _ b) = le-leb places s.depth b
-
-  pub short_reduce : (s.left ≡ 0 → ⊥) → 1024 ≤ a → Tells false (Short s places a)
-  short_reduce n h = record { yes = λ e. absurd (false≢true e); so = so }
-    where
-      so : Short s places a → false ≡ true
-      so (no_steps e) = absurd (n e)
-      so (no_place _ k _) = absurd (omega arith)
-
   -- what is left where it is not short
   pub long_enough : {b : Bool} → Tells b (Short s places a) → b ≡ false → (0 < s.left) × (a < 1024 → s.depth < places)
   long_enough {b} t e =
@@ -43,6 +24,12 @@ module _ (s : Spot) (places a : ℕ) where
     where
       never : Short s places a → ⊥
       never x = false≢true (sym e ∙ t.so x)
+
+-- ---- `put`
+
+-- a shift or acceptance
+pub put_found : (r : Sorted) (m a : ℕ) → (1024 ≤ a → a ≡ accept) → Puts r m a (record { found = bit_or r.found (2 ^ m); same = r.same; later = r.later; production = r.production })
+put_found r m a h = ⊎_elim (λ (l : a < 1024). Puts.shifts l) (λ (l : 1024 ≤ a). Puts.accepts (h l)) (lt_or_ge a 1024)
 
 -- ---- the loop
 
@@ -81,9 +68,6 @@ module _ {row : ℕ → ℕ} {s : Spot} {places group : ℕ} {r : Sorted} {g : �
   module _ (some : g ≡ 0 → ⊥) {m : ℕ} (l : Lowest 64 g m) where
     pub next_in : Has group m
     next_in = w.within m (l.found (omega (arith, some)))
-
-    pub walk_stuck : {a : ℕ} → row m ≡ a → (a ≡ 0 → ⊥) → Short s places a → Stuck row s places group
-    walk_stuck e n h = record { terminal = m; member = next_in; some = λ z. n (sym e ∙ z); why = rw e h }
 
     module _ {g' : ℕ} (t : Rest 64 g g') where
       walk_fits : g' < 2 ^ 64

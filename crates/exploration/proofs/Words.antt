@@ -9,7 +9,7 @@ use lib.Pow.{pow_pos}
 use lib.Count.{count_trailing_zeros}
 use borrow.Author.Tests.{eq-eqb, ne_eqb}
 use Rattle.sets.specs.Bit.{bit, count, Has, Within, Lowest, Rest}
-use Rattle.sets.proofs.BitLaws.{bit_not, bit_zero, bit_above, bit_shr, lowest_in, lowest_lt, lowest_below, clear_lowest}
+use Rattle.sets.proofs.BitLaws.{bit_not, bit_zero, bit_above, bit_shr, lowest_in, lowest_below, clear_lowest}
 use Rattle.sets.proofs.CountLaws.{count_same}
 use Rattle.sets.proofs.HasLaws.{lt_or_ge, eq_or, no_bit}
 use Rattle.sets.proofs.TestLaws.{and_true, and_left, and_right}
@@ -46,9 +46,6 @@ module _ {s : ℕ} (some : 0 < s) (fits : s < 2 ^ 64) where
 
   pub rest_less : {r : ℕ} → Rest 64 s r → r < s
   rest_less t = omega (arith, t.value, clear_lowest 64 s some fits, pow_pos (count_trailing_zeros 64 s))
-
-  pub lowest_fits : {m : ℕ} → Lowest 64 s m → m < 64
-  lowest_fits l = rw l.value (lowest_lt 64 s some fits)
 
   pub not_below : (m : ℕ) → Has s m → m < count_trailing_zeros 64 s → ⊥
   not_below m h b = false≢true (sym (lowest_below 64 s m b) ∙ h)

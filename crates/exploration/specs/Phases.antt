@@ -1,19 +1,15 @@
 -- What the parts of an exploration hand on to each other. Only private functions cite this.
-use Rattle.std.specs.Prelude.{ℕ, ◌-◌, ◌^◌, ◌<◌, ◌≤◌, ◌≡◌, ◌≢◌, List, []}
+use Rattle.std.specs.Prelude.{ℕ, ◌-◌, ◌^◌, ◌<◌, ◌≤◌, ◌≡◌, ◌≢◌, List, [], Option, Some, None, Result, Ok, Err}
 use Rattle.std.specs.Int.Bits.{bit_or}
 use Rattle.sets.specs.Bit.{Has}
 use Rattle.tables.specs.Layout.{terminals, reduction, accept}
-use Rattle.machine.specs.Exploration.{Explored, Cut}
+use Rattle.machine.specs.Exploration.{Explored, Cut as IsCut}
 use Rattle.machine.specs.Restricted.{Open}
 use Rattle.unlisted_steps.specs.declared.Spot.{Spot}
 use Rattle.exploration.specs.Reaches.{Reaches}
-use Rattle.exploration.specs.declared.Arrival.{Arrival}
-use Rattle.exploration.specs.declared.Arrival.TheVariants as arrival
+use Rattle.exploration.specs.declared.Cut.{Cut}
 use Rattle.exploration.specs.declared.Sorted.{Sorted}
-use Rattle.exploration.specs.declared.Sorting.{Sorting}
-use Rattle.exploration.specs.declared.Sorting.TheVariants as sorting
 use Rattle.exploration.specs.declared.Passed.{Passed}
-use Rattle.exploration.specs.declared.Passed.TheVariants as passed
 
 -- no terminal can follow: each fresh reading ends in 31
 abbrev pub NoneFollows : List ℕ → ℕ → ℕ → List ℕ → Type 0
@@ -23,13 +19,13 @@ NoneFollows t limit places line = (m : ℕ) → m < terminals t → Explored t l
 pub record CutFor (t : List ℕ) (limit places : ℕ) (line : List ℕ) (m : ℕ) : Type 0 where
   pub number : ℕ
   pub ends : Explored t limit places line m number
-  pub cut : Cut number
+  pub cut : IsCut number
 
 -- what comes of reading the line alone, as the fresh reading for 0 does; st is the second area then
-abbrev pub Arrives : List ℕ → ℕ → ℕ → List ℕ → List ℕ → Arrival → Type 0
-Arrives t limit places line st (arrival.Arrived s) = Reaches t limit places line st [] s
-Arrives t limit places line st arrival.Wrong = NoneFollows t limit places line
-Arrives t limit places line st arrival.Cut = CutFor t limit places line 0
+abbrev pub Arrives : List ℕ → ℕ → ℕ → List ℕ → List ℕ → Result (Option Spot) Cut → Type 0
+Arrives t limit places line st (Ok (Some s)) = Reaches t limit places line st [] s
+Arrives t limit places line st (Ok None) = NoneFollows t limit places line
+Arrives t limit places line st (Err _) = CutFor t limit places line 0
 
 -- no step is left for the action a, or no place for it as a shift
 pub data Short (s : Spot) (places a : ℕ) : Type 0 where
@@ -65,9 +61,9 @@ pub record Stuck (row : ℕ → ℕ) (s : Spot) (places group : ℕ) : Type 0 wh
   pub some : row terminal ≢ 0
   pub why : Short s places (row terminal)
 
-abbrev pub Sorts : (ℕ → ℕ) → Spot → ℕ → ℕ → Sorting → Type 0
-Sorts row s places group (sorting.Into r) = Apart row s places group r
-Sorts row s places group sorting.Cut = Stuck row s places group
+abbrev pub Sorts : (ℕ → ℕ) → Spot → ℕ → ℕ → Result Sorted Cut → Type 0
+Sorts row s places group (Ok r) = Apart row s places group r
+Sorts row s places group (Err _) = Stuck row s places group
 
 -- a pass decides each terminal of todo or leaves it, and never leaves the lowest
 pub record Decides (t : List ℕ) (limit places : ℕ) (line : List ℕ) (todo found later : ℕ) : Type 0 where
@@ -80,10 +76,10 @@ pub data PassCut (t : List ℕ) (limit places : ℕ) (line : List ℕ) (todo : �
   on_line : CutFor t limit places line 0 → PassCut t limit places line todo
   behind_line : {m : ℕ} → Has todo m → CutFor t limit places line m → PassCut t limit places line todo
 
-abbrev pub Passes : List ℕ → ℕ → ℕ → List ℕ → ℕ → Passed → Type 0
-Passes t limit places line todo (passed.Over found later) = Decides t limit places line todo found later
-Passes t limit places line todo passed.Wrong = NoneFollows t limit places line
-Passes t limit places line todo passed.Cut = PassCut t limit places line todo
+abbrev pub Passes : List ℕ → ℕ → ℕ → List ℕ → ℕ → Result (Option Passed) Cut → Type 0
+Passes t limit places line todo (Ok (Some p)) = Decides t limit places line todo p.found p.later
+Passes t limit places line todo (Ok None) = NoneFollows t limit places line
+Passes t limit places line todo (Err _) = PassCut t limit places line todo
 
 -- between passes: each open terminal is found, wrong, or still to be decided
 pub record Deciding (t : List ℕ) (closed limit places : ℕ) (line : List ℕ) (todo found : ℕ) : Type 0 where

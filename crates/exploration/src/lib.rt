@@ -12,21 +12,16 @@ ghost use Rattle.exploration.specs.Reaches.{Reaches};
 ghost use Rattle.exploration.specs.Phases.{Arrives, Short, Puts, Sorts, Passes, Deciding};
 
 use tables::Shape;
-use unlisted_steps::{Next, Spot};
+use unlisted_steps::{Spot, Stop};
 
-// The open terminals that can follow, or that the fresh reading for one of them ran out of steps or places, or broke off.
+// That a fresh reading ran out of steps or places, or broke off.
 #[derive(Clone, Copy)]
-pub enum Expected {
-    Known(u64),
-    Cut,
-}
+pub struct Cut;
 
-// What comes of reading the line alone: the spot behind it, a terminal of it with no action, or a cut.
-#[derive(Clone, Copy)]
-enum Arrival {
-    Arrived(Spot),
-    Wrong,
-    Cut,
+impl From<Stop> for Cut {
+    fn from(_stop: Stop) -> Cut {
+        Cut
+    }
 }
 
 // Terminals by what their cells in one row ask for: a shift or acceptance, the reduction by a production, or another one.
@@ -38,18 +33,11 @@ struct Sorted {
     production: usize,
 }
 
-#[derive(Clone, Copy)]
-enum Sorting {
-    Into(Sorted),
-    Cut,
-}
-
 // What comes of a pass: the terminals found, and those left for a later one.
 #[derive(Clone, Copy)]
-enum Passed {
-    Over { found: u64, later: u64 },
-    Wrong,
-    Cut,
+struct Passed {
+    found: u64,
+    later: u64,
 }
 
 // All n terminals.
@@ -57,7 +45,7 @@ fn all(n: usize) -> u64
     requires { (0 < n) × (n ≤ 64) }
     ensures { (m : ℕ) → Has result m ↔ (m < n) }
 {
-    18446744073709551615 >> (64 - n)
+    u64::MAX >> (64 - n)
 }
 
 // The spot before a line: state 0 alone, and all steps left.
@@ -73,7 +61,7 @@ pub fn begin(second: &mut [u16], step_limit: u64) -> Spot
     }
 }
 
-// Reads the line alone, from a spot with some of its terminals passed.
+// Reads the line alone, from a spot with some of its terminals passed: the spot behind it, or none where a terminal of it has no action.
 fn arrive(
     table: &[u16],
     cells: &[u16],
@@ -83,7 +71,7 @@ fn arrive(
     from: Spot,
     passed: usize,
     step_limit: u64,
-) -> Arrival
+) -> Result<Option<Spot>, Cut>
     requires { (Readable table.now cells.now z) × (input_ok table.now line.now ≡ true) × (Reaches table.now step_limit (length second.old) line.now second.old (drop passed line.now) from) }
     ensures { Arrives table.now step_limit (length second.old) line.now second.new result }
 {
@@ -92,40 +80,26 @@ fn arrive(
     while i < line.len() {
         let a = tables::cell_at(cells, line[i] as usize, s.top * z.width) as usize;
         if a == 0 {
-            return Arrival::Wrong;
+            return Ok(None);
         }
         if s.left == 0 {
-            return Arrival::Cut;
+            return Err(Cut);
         }
         if a < 1024 {
-            let n = unlisted_steps::shift(second, s, a);
-            let Next::Moved(t) = n else {
-                return Arrival::Cut;
-            };
-            s = t;
+            s = unlisted_steps::shift(second, s, a)?;
             i += 1;
         } else {
-            let n = unlisted_steps::reduce(table, cells, second, z, s, a - 1024);
-            let Next::Moved(t) = n else {
-                return Arrival::Cut;
-            };
-            s = t;
+            s = unlisted_steps::reduce(table, cells, second, z, s, a - 1024)?;
         }
     }
-    Arrival::Arrived(s)
+    Ok(Some(s))
 }
 
 // Whether the action a cannot be made for want of a step, or as a shift for want of a place.
 fn short(s: Spot, places: usize, a: usize) -> bool
     ensures { Tells result (Short s places a) }
 {
-    if s.left == 0 {
-        true
-    } else if a < 1024 {
-        places <= s.depth
-    } else {
-        false
-    }
+    s.left == 0 || (a < 1024 && places <= s.depth)
 }
 
 // The terminal m, whose action is a, put to the others.
@@ -133,30 +107,32 @@ fn put(r: Sorted, m: u32, a: usize) -> Sorted
     requires { m < 64 }
     ensures { Puts r m a result }
 {
-    let mut x = r;
-    if a < 1024 {
-        x.found = sets::with(r.found, m);
-        return x;
+    if a < 1024 || a == 4096 {
+        Sorted {
+            found: sets::with(r.found, m),
+            ..r
+        }
+    } else if r.same == 0 {
+        Sorted {
+            same: sets::with(0, m),
+            production: a - 1024,
+            ..r
+        }
+    } else if r.production == a - 1024 {
+        Sorted {
+            same: sets::with(r.same, m),
+            ..r
+        }
+    } else {
+        Sorted {
+            later: sets::with(r.later, m),
+            ..r
+        }
     }
-    if a == 4096 {
-        x.found = sets::with(r.found, m);
-        return x;
-    }
-    if r.same == 0 {
-        x.same = sets::with(0, m);
-        x.production = a - 1024;
-        return x;
-    }
-    if r.production == a - 1024 {
-        x.same = sets::with(r.same, m);
-        return x;
-    }
-    x.later = sets::with(r.later, m);
-    x
 }
 
 // Sorts the terminals of a group by the row of the top state.
-fn sort(cells: &[u16], z: Shape, s: Spot, places: usize, group: u64) -> Sorting
+fn sort(cells: &[u16], z: Shape, s: Spot, places: usize, group: u64) -> Result<Sorted, Cut>
     requires { (s.top * z.width + z.terminals ≤ length cells.now) × ((m : ℕ) → Has group m → m < z.terminals) }
     ensures { Sorts (λ m. get_or cells.now (s.top * z.width + m) 0) s places group result }
 {
@@ -173,13 +149,13 @@ fn sort(cells: &[u16], z: Shape, s: Spot, places: usize, group: u64) -> Sorting
         let a = tables::cell_at(cells, row, m as usize) as usize;
         if a != 0 {
             if short(s, places, a) {
-                return Sorting::Cut;
+                return Err(Cut);
             }
             r = put(r, m, a);
         }
         g = sets::rest(g);
     }
-    Sorting::Into(r)
+    Ok(r)
 }
 
 // Reads the line from a spot, and goes on for the terminals of todo as long as one reduction serves some of them.
@@ -193,33 +169,25 @@ fn pass(
     passed: usize,
     step_limit: u64,
     todo: u64,
-) -> Passed
+) -> Result<Option<Passed>, Cut>
     requires { (Readable table.now cells.now z) × (input_ok table.now line.now ≡ true) × (Reaches table.now step_limit (length second.old) line.now second.old (drop passed line.now) from) × ((m : ℕ) → Has todo m → m < terminals table.now) }
     ensures { Passes table.now step_limit (length second.old) line.now todo result }
 {
-    let mut s = match arrive(table, cells, line, second, z, from, passed, step_limit) {
-        Arrival::Arrived(s) => s,
-        Arrival::Wrong => return Passed::Wrong,
-        Arrival::Cut => return Passed::Cut,
+    let arrived = arrive(table, cells, line, second, z, from, passed, step_limit)?;
+    let Some(mut s) = arrived else {
+        return Ok(None);
     };
     let mut group = todo;
     let mut found: u64 = 0;
     let mut later: u64 = 0;
     loop {
-        let n = sort(cells, z, s, second.len(), group);
-        let Sorting::Into(x) = n else {
-            return Passed::Cut;
-        };
+        let x = sort(cells, z, s, second.len(), group)?;
         found = sets::join(found, x.found);
         later = sets::join(later, x.later);
         if x.same == 0 {
-            return Passed::Over { found, later };
+            return Ok(Some(Passed { found, later }));
         }
-        let n = unlisted_steps::reduce_any(table, cells, second, z, s, x.production);
-        let Next::Moved(t) = n else {
-            return Passed::Cut;
-        };
-        s = t;
+        s = unlisted_steps::reduce_any(table, cells, second, z, s, x.production)?;
         group = x.same;
     }
 }
@@ -235,7 +203,7 @@ fn others(
     step_limit: u64,
     first: u64,
     undecided: u64,
-) -> Expected
+) -> Result<u64, Cut>
     requires { (Readable table.now cells.now z) × (closed_ok table.now closed ≡ true) × (input_ok table.now line.now ≡ true) × (0 < length second.old) × (Deciding table.now closed step_limit (length second.old) line.now undecided first) }
     ensures { Explores table.now closed step_limit (length second.old) line.now result }
 {
@@ -243,21 +211,14 @@ fn others(
     let mut found = first;
     while todo != 0 {
         let s = begin(second, step_limit);
-        let n = pass(table, cells, line, second, z, s, 0, step_limit, todo);
-        match n {
-            Passed::Over { found: f, later } => {
-                found = sets::join(found, f);
-                todo = later;
-            }
-            Passed::Wrong => {
-                return Expected::Known(0);
-            }
-            Passed::Cut => {
-                return Expected::Cut;
-            }
-        }
+        let n = pass(table, cells, line, second, z, s, 0, step_limit, todo)?;
+        let Some(p) = n else {
+            return Ok(0);
+        };
+        found = sets::join(found, p.found);
+        todo = p.later;
     }
-    Expected::Known(found)
+    Ok(found)
 }
 
 // Which terminals can follow the line, but for the closed ones, by fresh readings in the second area. The first pass goes
@@ -271,7 +232,7 @@ pub fn explore(
     from: Spot,
     passed: usize,
     step_limit: u64,
-) -> Expected
+) -> Result<u64, Cut>
     requires { (Checked table.now) × (closed_ok table.now closed ≡ true) × (input_ok table.now line.now ≡ true) × (0 < length second.old) × (passed ≤ length line.now) × (Reaches table.now step_limit (length second.old) line.now second.old (drop passed line.now) from) }
     ensures { Explores table.now closed step_limit (length second.old) line.now result }
 {
@@ -280,12 +241,11 @@ pub fn explore(
     let todo = sets::minus(all(z.terminals), closed);
     let n = pass(
         table, cells, line, second, z, from, passed, step_limit, todo,
-    );
-    match n {
-        Passed::Over { found: f, later } => {
-            others(table, cells, line, closed, second, z, step_limit, f, later)
-        }
-        Passed::Wrong => Expected::Known(0),
-        Passed::Cut => Expected::Cut,
-    }
+    )?;
+    let Some(p) = n else {
+        return Ok(0);
+    };
+    others(
+        table, cells, line, closed, second, z, step_limit, p.found, p.later,
+    )
 }

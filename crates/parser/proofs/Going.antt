@@ -16,14 +16,13 @@ use Rattle.machine.proofs.Checked.{Passed}
 use Rattle.steps.specs.State.{machine_of, accepted_of, stop_number, Held, Stepped}
 use Rattle.steps.specs.declared.Stop.{Stop}
 use Rattle.steps.specs.declared.Stop.TheVariants.{StackFull, ListFull, Broken}
-use Rattle.steps.specs.declared.Next.TheVariants.{Ended, Moved, Accepted}
 use Rattle.steps.specs.declared.State.{State}
-use Rattle.parser.specs.Answer.{counts_of, numbers}
-use Rattle.parser.specs.Phases.{reached, accepted_at, Countable, At, final, wrong, Ends, Advances, paused}
+use Rattle.std.specs.Prelude.{Some, None, Ok, Err}
+use Rattle.parser.specs.Answer.{counts_of, reading_numbers}
+use Rattle.parser.specs.Phases.{reached, accepted_at, Countable, At, final, wrong, Ends, Pauses}
 use Rattle.parser.specs.declared.Counts.{Counts}
-use Rattle.parser.specs.declared.Answer.{Answer}
+use Rattle.parser.specs.declared.Reading.{Reading}
 use Rattle.parser.specs.declared.Ending.TheVariants.{Final, Wrong}
-use Rattle.parser.specs.declared.Progress.TheVariants.{Paused}
 use Rattle.parser.proofs.Held.{action_is}
 
 -- while the loop goes on from the state s₀: as many steps as were left there, and any more, lead to the same
@@ -34,9 +33,6 @@ pub record Going (t l : List ℕ) (barred : Bool) (cs : List ℕ) (s₀ : State)
   pub spent : s.position + s.listed + s.left ≡ s₀.position + s₀.listed + s₀.left
   pub stacks : length st ≡ length st₀
   pub lists : length li ≡ length li₀
-
-pub going_start : {t l : List ℕ} {barred : Bool} {cs st li : List ℕ} {z : Shape} {s : State} → Held t cs st li z s → Going t l barred cs s z st li st li s
-going_start h = record { same = λ j. refl; held = h; spent = refl; stacks = refl; lists = refl }
 
 -- under a limit of w bits the steps made have w bits, and where one is left the next does, too
 module _ {t l : List ℕ} {barred : Bool} {cs st₀ li₀ st li : List ℕ} {s₀ : State} {z : Shape} {s : State} (g : Going t l barred cs s₀ z st₀ li₀ st li s) (w : ℕ) (f : s₀.position + s₀.listed + s₀.left < 2 ^ w) where
@@ -49,7 +45,7 @@ module _ {t l : List ℕ} {barred : Bool} {cs st₀ li₀ st li : List ℕ} {s�
 ends_31 : {position : ℕ} {c : Counts} (m : Machine) (o : Outcome) → record { number = 31; final = m } ≡ o → At m position c → Ends o (Wrong position c) m.stack m.list
 ends_31 {position} {c} m o e h = subst (λ (o : Outcome). Ends o (Wrong position c) m.stack m.list) e (record { says = wrong refl h; stack = refl; list = refl })
 
-pub ends_else : {r : Answer} (n : ℕ) (m : Machine) (o : Outcome) → n ≢ 31 → record { number = n; final = m } ≡ o → numbers r ≡ numbers_of (ended_at n m) → Ends o (Final r) m.stack m.list
+pub ends_else : {r : Reading} (n : ℕ) (m : Machine) (o : Outcome) → n ≢ 31 → record { number = n; final = m } ≡ o → reading_numbers r ≡ numbers_of (ended_at n m) → Ends o (Final r) m.stack m.list
 ends_else {r} n m o d e h = subst (λ (o : Outcome). Ends o (Final r) m.stack m.list) e (record { says = final d h; stack = refl; list = refl })
 
 stop_number_is : (e : Stop) → stop_number e ≢ 31
@@ -67,9 +63,13 @@ module _ {t l : List ℕ} {barred : Bool} {cs st₀ li₀ : List ℕ} {s₀ : St
 
   module _ (nz : x ≡ 0 → ⊥) where
     -- no step is left
-    pub pauses : s.left ≡ 0 → Advances t l barred cs z s₀ (machine_of st₀ li₀ s₀) st li (Paused s)
-    pauses e =
-        paused (λ j. sym (g.same j) ∙ ap (λ (k : ℕ). run_to t l barred k (machine_of st li s)) (omega (arith, e))) g.held (λ z. nz (act ∙ z)) (omega (arith, g.spent, e))
+    pub pauses : s.left ≡ 0 → Pauses t l barred cs z s₀ (machine_of st₀ li₀ s₀) st li s
+    pauses e = record {
+      goes = λ j. sym (g.same j) ∙ ap (λ (k : ℕ). run_to t l barred k (machine_of st li s)) (omega (arith, e));
+      held = g.held;
+      asks = λ z. nz (act ∙ z);
+      made = omega (arith, g.spent, e);
+    }
 
     module _ (more : s.left ≡ 0 → ⊥) where
       some : (j : ℕ) → 0 < s.left + j
@@ -81,20 +81,17 @@ module _ {t l : List ℕ} {barred : Bool} {cs st₀ li₀ : List ℕ} {s₀ : St
           ∙ sym (run_to_more t l barred (machine_of st li s) (s.left + j) (some j) (λ e. nz (act ∙ e))) ∙ g.same j
 
       module _ {st' li' : List ℕ} where
-        pub stop_step : {e : Stop} {r : Answer} → Stepped t cs z s st' li' (Ended e) (moved_by t x (machine_of st li s))
-            → numbers r ≡ stop_number e ∷ reached s → (j : ℕ) → Ends (run_to t l barred (s₀.left + j) (machine_of st₀ li₀ s₀)) (Final r) st' li'
+        pub stop_step : {e : Stop} {r : Reading} → Stepped t cs z s st' li' (Err e) (moved_by t x (machine_of st li s))
+            → reading_numbers r ≡ stop_number e ∷ reached s → (j : ℕ) → Ends (run_to t l barred (s₀.left + j) (machine_of st₀ li₀ s₀)) (Final r) st' li'
         unfolding after
         stop_step {e} y h j = ends_else (stop_number e) (machine_of st' li' s) _ (stop_number_is e) (stepped j y.next) h
 
-        pub accept_step : {r : Answer} → Stepped t cs z s st' li' Accepted (moved_by t x (machine_of st li s))
-            → numbers r ≡ 0 ∷ accepted_at s → (j : ℕ) → Ends (run_to t l barred (s₀.left + j) (machine_of st₀ li₀ s₀)) (Final r) st' li'
+        pub accept_step : {r : Reading} → Stepped t cs z s st' li' (Ok None) (moved_by t x (machine_of st li s))
+            → reading_numbers r ≡ 0 ∷ accepted_at s → (j : ℕ) → Ends (run_to t l barred (s₀.left + j) (machine_of st₀ li₀ s₀)) (Final r) st' li'
         unfolding after
         accept_step y h j = ends_else 0 (accepted_of st' li' s) _ (λ z. omega arith) (stepped j y.next) h
 
-        module _ {s' : State} (y : Stepped t cs z s st' li' (Moved s') (moved_by t x (machine_of st li s))) where
-          pub falls : s'.left < s.left
-          falls = omega (arith, y.held.1)
-
+        module _ {s' : State} (y : Stepped t cs z s st' li' (Ok (Some s')) (moved_by t x (machine_of st li s))) where
           pub goes_on : length st' ≡ length st → length li' ≡ length li → Going t l barred cs s₀ z st₀ li₀ st' li' s'
           unfolding after
           goes_on es el = record {

@@ -26,10 +26,10 @@ use Rattle.table_checks.specs.Verdict.{refusal_number}
 use Rattle.table_checks.specs.declared.Refusal.{Refusal}
 use Rattle.table_checks.specs.declared.Refusal.TheVariants.{TableShort, SizesWrong, ProductionWrong, CellWrong, EntryWrong, InputLong, TerminalWrong, NoStack, SecondShort, ClosedWrong}
 use Rattle.scans.specs.OpenFront.{OpenFront}
-use Rattle.parser.specs.Answer.{numbers, ReadsAs}
+use Rattle.std.specs.Prelude.{Result, Ok, Err}
+use Rattle.parser.specs.Answer.{reading_numbers, numbers, ReadsAs}
 use Rattle.parser.specs.Phases.{known, unknown, Answers, ends, stops, Ready, ReadsTo}
-use Rattle.parser.specs.declared.Answer.{Answer}
-use Rattle.parser.specs.declared.Answer.TheVariants as answer
+use Rattle.parser.specs.declared.Reading as declared
 
 not_zero : (e : Refusal) → refusal_number e ≢ 0
 not_zero TableShort z = omega arith
@@ -63,7 +63,7 @@ ready_restricted t closed l n k i e f =
     }
 
 module _ (t : List ℕ) (closed : ℕ) (l st li se : List ℕ) (a : ℕ) where
-  pub refuses_restricted : (e : Refusal) → refusal_number e ≡ restricted_refusal t closed l (length st) (length se) → ReadsAs (restricted_reading t closed l st li se a) (answer.Refused e) st li se
+  pub refuses_restricted : (e : Refusal) → refusal_number e ≡ restricted_refusal t closed l (length st) (length se) → ReadsAs (restricted_reading t closed l st li se a) (Err e) st li se
   refuses_restricted e h =
       rw (restricted_refused t closed l st li se a (refusal_number e) (sym h) (not_zero e)) (record { answer = refl; stack = refl; list = refl; second = refl })
 
@@ -99,7 +99,7 @@ module _ (t : List ℕ) (closed : ℕ) (l st li se : List ℕ) (a : ℕ) where
           let d = length-take-le o.final.position l (omega (arith, f.within)) in
           rw (get_or-take o.final.position l i 0 (omega (arith, d)), ← get_or-take n l i 0 (omega (arith, d, h))) (f.before i (omega (arith, d, h, line_long)))
 
-      report_restricted : {r : Answer} → Answers t closed (take n l) a (length se) o r → numbers r ≡ numbers_of (report_of (masked closed t) l a (length se) o)
+      report_restricted : {r : declared.Reading} → Answers t closed (take n l) a (length se) o r → reading_numbers r ≡ numbers_of (report_of (masked closed t) l a (length se) o)
       unfolding report_of
       report_restricted (ends ne er) = rw (ne_eqb o.number 31 ne) er
       report_restricted (stops eo (known word w er)) =
@@ -109,7 +109,7 @@ module _ (t : List ℕ) (closed : ℕ) (l st li se : List ℕ) (a : ℕ) where
           rw (eq-eqb o.number 31 eo)
           (er ∙ ap numbers_of (sym (open_unknown l a (length se) mt.0.passed.table mt.1 input_passed some_places o.final (omega (arith, f.within)) line_open (rw line_is at w))))
 
-    pub reads_restricted : {r : Answer} {st' li' se' : List ℕ} → ReadsTo t (take n l) (ltb n (length l)) closed st li se a r st' li' se' → ReadsAs (restricted_reading t closed l st li se a) r st' li' se'
+    pub reads_restricted : {r : declared.Reading} {st' li' se' : List ℕ} → ReadsTo t (take n l) (ltb n (length l)) closed st li se a r st' li' se' → ReadsAs (restricted_reading t closed l st li se a) (Ok r) st' li' se'
     unfolding restricted_reading reading_of
     reads_restricted {r} w =
         let eo = run_to_masked st li mt.0.passed mt.1 front a in
@@ -124,7 +124,7 @@ module _ (t : List ℕ) (closed : ℕ) (l st li se : List ℕ) (a : ℕ) where
         })
 
 -- of the publisher's reading, under a limit of w bits: a reading in w bits is answered, with a count of w bits
-pub answered_in : (t l st li se : List ℕ) (a w : ℕ) {r : Answer} {st' li' se' : List ℕ} → a < 2 ^ w → ReadsAs (reading t l st li se a) r st' li' se'
+pub answered_in : (t l st li se : List ℕ) (a w : ℕ) {r : Result declared.Reading Refusal} {st' li' se' : List ℕ} → a < 2 ^ w → ReadsAs (reading t l st li se a) r st' li' se'
     → (g : Reading) × ReadsIn w t l st li se a g × ReadsAs g r st' li' se' × (get_or (numbers r) 1 0 < 2 ^ w)
 answered_in t l st li se a w f h =
     let d = reads_some t l st li se a in

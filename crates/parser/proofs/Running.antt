@@ -1,16 +1,16 @@
 -- What the loop of `run` keeps between checkpoints, and the laws of its ways out.
 use mathlib.Core.Path.{◌≡◌, refl, sym, ap, subst, ◌∙◌}
-use mathlib.Core.Logic.{◌≢◌}
 use mathlib.Core.Bool.{Bool}
 use mathlib.Core.List.{List, ◌∷◌}
-use Prim.Native.Nat.{ℕ, ◌+◌, ◌-◌, ◌^◌, ◌<◌, ◌≤◌}
+use Rattle.std.specs.Prelude.{Option, Some, None}
+use Prim.Native.Nat.{ℕ, ◌+◌, ◌-◌, ◌<◌, ◌≤◌}
 use native.Mathlib.Omega.{arith}
 use lib.ListN.{length, take, drop, set}
 use lib.Seq.{length-take-le}
 use Rattle.tables.specs.Shape.{Shaped}
 use Rattle.tables.specs.declared.Shape.{Shape}
 use Rattle.machine.specs.ComputedRun.{Machine, Outcome, start}
-use Rattle.machine.specs.RunTo.{action_to, run_to}
+use Rattle.machine.specs.RunTo.{run_to}
 use Rattle.machine.proofs.RunLaws.{run_to_none}
 use Rattle.machine.proofs.RunTo.{run_to_spent}
 use Rattle.machine.proofs.Checked.{Passed}
@@ -19,12 +19,11 @@ use Rattle.steps.specs.State.{machine_of, Held}
 use Rattle.steps.specs.declared.State.{State}
 use Rattle.exploration.specs.Reaches.{Reaches}
 use Rattle.parser.specs.Answer.{counts_of}
-use Rattle.parser.specs.Phases.{reached, Countable, Ends, Advances, ended, paused, start_state, checkpoint_at, no_checkpoint, Resumes}
+use Rattle.parser.specs.Phases.{reached, Ends, Pauses, start_state, checkpoint_at, Resumes}
 use Rattle.parser.specs.declared.Counts.{Counts}
-use Rattle.parser.specs.declared.Answer.TheVariants.{StepLimit}
+use Rattle.parser.specs.declared.Reading.TheVariants.{StepLimit}
 use Rattle.parser.specs.declared.Ending.{Ending}
 use Rattle.parser.specs.declared.Ending.TheVariants.{Final}
-use Rattle.parser.specs.declared.Progress.TheVariants.{Ended, Paused}
 use Rattle.parser.specs.declared.Checkpoint.{Checkpoint}
 use Rattle.parser.proofs.Held.{held_start}
 use Rattle.parser.proofs.Going.{ends_else}
@@ -33,25 +32,12 @@ use Rattle.parser.proofs.Going.{ends_else}
 abbrev pub with_left : ℕ → State → State
 with_left b s = record { depth = s.depth; listed = s.listed; position = s.position; left = b; top = s.top }
 
-pub held_left : {t cs st li : List ℕ} {z : Shape} {s : State} (b : ℕ) → Held t cs st li z s → Held t cs st li z (with_left b s)
-held_left b h = record {
-  checked = h.checked;
-  shaped = h.shaped;
-  rows = h.rows;
-  deep = h.deep;
-  within = h.within;
-  room = h.room;
-  passed = h.passed;
-  states_in = h.states_in;
-  top_is = h.top_is;
-}
-
 -- the machine as the loop starts, with state 0 on the stack
 abbrev pub begun : List ℕ → List ℕ → Machine
 begun st li = record { stack = st; list = li; depth = 1; listed = 0; position = 0; steps = 0 }
 
 -- the areas as the loop starts are st₀, li₀ and se₀, a is the limit; so many steps are left
-pub record Running (t l : List ℕ) (barred : Bool) (cs : List ℕ) (a : ℕ) (z : Shape) (st₀ li₀ se₀ st li se : List ℕ) (s : State) (m : Checkpoint) (left : ℕ) : Type 0 where
+pub record Running (t l : List ℕ) (barred : Bool) (cs : List ℕ) (a : ℕ) (z : Shape) (st₀ li₀ se₀ st li se : List ℕ) (s : State) (m : Option Checkpoint) (left : ℕ) : Type 0 where
   pub same : (j : ℕ) → run_to t l barred j (machine_of st li s) ≡ run_to t l barred (s.position + s.listed + j) (begun st₀ li₀)
   pub held : Held t cs st li z s
   pub spent : s.position + s.listed + left ≡ a
@@ -60,56 +46,33 @@ pub record Running (t l : List ℕ) (barred : Bool) (cs : List ℕ) (a : ℕ) (z
   pub seconds : length se ≡ length se₀
   pub resumes : Resumes t l a se m
 
--- fewer steps are left after a portion
-pub less_left : {left b : ℕ} → b ≤ left → (0 < left → 0 < b) → (left - b ≡ 0 → ⊥) → left - b < left
-less_left {left} {b} k h n = let z : 0 < left = omega (arith, n) in let y = h z in omega arith
-
--- what a pause says
-pub record Pausing (t l : List ℕ) (barred : Bool) (cs : List ℕ) (z : Shape) (s : State) (m₀ : Machine) (st li : List ℕ) (s' : State) : Type 0 where
-  pub goes : (j : ℕ) → run_to t l barred (s.left + j) m₀ ≡ run_to t l barred j (machine_of st li s')
-  pub held : Held t cs st li z s'
-  pub asks : action_to t l barred (machine_of st li s') ≢ 0
-  pub made : s'.position + s'.listed ≡ s.position + s.listed + s.left
-
-pub pausing : {t l : List ℕ} {barred : Bool} {cs : List ℕ} {z : Shape} {s : State} {m₀ : Machine} {st li : List ℕ} {s' : State} → Advances t l barred cs z s m₀ st li (Paused s') → Pausing t l barred cs z s m₀ st li s'
-pausing (paused h e n m) = record { goes = h; held = e; asks = n; made = m }
-
--- at first there is no checkpoint: no input is longer than 65,535
-no_checkpoint_is : (t l : List ℕ) (a : ℕ) (se : List ℕ) → length l ≤ 65535 → Resumes t l a se no_checkpoint
-no_checkpoint_is t l a se h place k i = absurd (omega (arith, length-take-le place l k))
-
-pub running_start : {t l : List ℕ} {barred : Bool} {cs li se : List ℕ} {z : Shape} (st : List ℕ) (a : ℕ) → Passed t l (length st) → length l ≤ 65535 → Shaped t z → cs ≡ drop z.cells t
-    → Running t l barred cs a z (set st 0 0) li se (set st 0 0) li se start_state no_checkpoint a
-running_start {t} {l} {barred} {li = li} {se = se} st a p h s e = record {
+-- at first there is no checkpoint
+pub running_start : {t l : List ℕ} {barred : Bool} {cs li se : List ℕ} {z : Shape} (st : List ℕ) (a : ℕ) → Passed t l (length st) → Shaped t z → cs ≡ drop z.cells t
+    → Running t l barred cs a z (set st 0 0) li se (set st 0 0) li se start_state None a
+running_start {t} {l} {barred} {li = li} {se = se} st a p s e = record {
   same = λ j. ap (λ (k : ℕ). run_to t l barred k (begun (set st 0 0) li)) (omega arith);
   held = held_start st 0 p s e;
   spent = omega arith;
   stacks = refl;
   lists = refl;
   seconds = refl;
-  resumes = no_checkpoint_is t l a se h;
+  resumes = λ place k. tt;
 }
 
-module _ {t l : List ℕ} {barred : Bool} {cs : List ℕ} {a : ℕ} {z : Shape} {st₀ li₀ se₀ st li se : List ℕ} {s : State} {m : Checkpoint} {left : ℕ} (g : Running t l barred cs a z st₀ li₀ se₀ st li se s m left)
+module _ {t l : List ℕ} {barred : Bool} {cs : List ℕ} {a : ℕ} {z : Shape} {st₀ li₀ se₀ st li se : List ℕ} {s : State} {m : Option Checkpoint} {left : ℕ} (g : Running t l barred cs a z st₀ li₀ se₀ st li se s m left)
     (b : ℕ) (few : b ≤ left) where
-  ends_so : {e : Ending} {st' li' : List ℕ} → ((j : ℕ) → Ends (run_to t l barred (b + j) (machine_of st li s)) e st' li') → Ends (run_to t l barred a (begun st₀ li₀)) e st' li'
-  ends_so {e} {st'} {li'} h =
+  -- an end within the portion is that of the run
+  pub run_ends : {e : Ending} {st' li' : List ℕ} → ((j : ℕ) → Ends (run_to t l barred (b + j) (machine_of st li s)) e st' li') → Ends (run_to t l barred a (begun st₀ li₀)) e st' li'
+  run_ends {e} {st'} {li'} h =
       subst (λ (o : Outcome). Ends o e st' li') (g.same (b + (left - b)) ∙ ap (λ (k : ℕ). run_to t l barred k (begun st₀ li₀)) (omega (arith, few, g.spent))) (h (left - b))
 
-  -- an end within the portion is that of the run
-  pub run_ends : {e : Ending} {st' li' : List ℕ} → Advances t l barred cs z (with_left b s) (machine_of st li s) st' li' (Ended e) → Ends (run_to t l barred a (begun st₀ li₀)) e st' li'
-  run_ends (ended h) = ends_so h
-
   -- the run goes on from where the portion ends
-  module _ (st' li' : List ℕ) (s' : State) (w : Pausing t l barred cs z (with_left b s) (machine_of st li s) st' li' s') where
+  module _ (st' li' : List ℕ) (s' : State) (w : Pauses t l barred cs z (with_left b s) (machine_of st li s) st' li' s') where
     made_is : s'.position + s'.listed ≡ s.position + s.listed + b
     made_is = w.made
 
     on : (j : ℕ) → run_to t l barred j (machine_of st' li' s') ≡ run_to t l barred (s'.position + s'.listed + j) (begun st₀ li₀)
     on j = sym (w.goes j) ∙ g.same (b + j) ∙ ap (λ (k : ℕ). run_to t l barred k (begun st₀ li₀)) (omega (arith, made_is))
-
-    pub countable_so : (w : ℕ) → a < 2 ^ w → Countable w s'
-    countable_so w f = omega (arith, made_is, few, g.spent)
 
     -- with the steps made so far the run ends there
     so_far : run_to t l barred (s'.position + s'.listed) (begun st₀ li₀) ≡ record { number = 32; final = machine_of st' li' s' }
@@ -148,7 +111,7 @@ module _ {t l : List ℕ} {barred : Bool} {cs : List ℕ} {a : ℕ} {z : Shape} 
           }
 
       pub running_on : length li' ≡ length li₀
-          → Running t l barred cs a z st₀ li₀ se₀ st' li' se' s' (checkpoint_at s' (left - b)) (left - b)
+          → Running t l barred cs a z st₀ li₀ se₀ st' li' se' s' (Some (checkpoint_at s' (left - b))) (left - b)
       running_on el = record {
         same = on;
         held = w.held;

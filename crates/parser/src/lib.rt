@@ -1,20 +1,21 @@
 // Runs a parse table over an input.
 #![tactic(auto)]
 
-ghost use Rattle.std.specs.Prelude.{◌≡◌, true, ◌∷◌, ◌+◌, ◌^◌, ◌<◌, ◌≤◌, length, replicate};
+ghost use Rattle.std.specs.Prelude.{◌≡◌, true, ◌∷◌, ◌+◌, ◌^◌, ◌<◌, ◌≤◌, length, take, replicate};
 ghost use Rattle.machine.specs.Checks.{input_ok, closed_ok, restricted_refusal};
 ghost use Rattle.machine.specs.ComputedRun.{Machine, Outcome, start, reading, restricted_reading};
 ghost use Rattle.machine.specs.RunTo.{run_to};
 ghost use Rattle.machine.proofs.Checked.{Checked, Passed};
 ghost use Rattle.exploration.specs.Expected.{Explores};
 ghost use Rattle.steps.specs.State.{machine_of, stop_number, Held};
-ghost use Rattle.parser.specs.Answer.{counts_of, numbers, ReadsAs};
-ghost use Rattle.parser.specs.Phases.{reached, accepted_at, count_bits, Countable, At, Says, Ends, Advances, start_state, checkpoint_at, no_checkpoint, ResumesIn, Resumes, Explorable, tells, AnswersAt, Answers, Ready, ReadsTo};
+ghost use Rattle.parser.specs.Answer.{counts_of, reading_numbers, ReadsAs};
+ghost use Rattle.parser.specs.Phases.{reached, accepted_at, count_bits, Countable, At, Says, Ends, Advances, start_state, checkpoint_at, ResumesIn, Resumes, Explorable, tells, AnswersAt, Answers, Ready, ReadsTo};
 ghost use Rattle.parser.specs.Terminals.{Lists};
 
-use exploration::Expected;
-use steps::{Next, State, Stop};
-use table_checks::{Refusal, Verdict};
+use exploration::Cut;
+use std::ops::ControlFlow;
+use steps::{State, Stop};
+use table_checks::Refusal;
 use tables::Shape;
 use unlisted_steps::Spot;
 
@@ -26,10 +27,9 @@ pub struct Counts {
     pub listed: usize,
 }
 
-// A refusal, or how a reading ended; `numbers` of specs/Answer.antt gives the paper's number and values of each.
+// How a reading ended; `reading_numbers` of specs/Answer.antt gives the paper's number and values of each.
 #[derive(Clone, Copy)]
-pub enum Answer {
-    Refused(Refusal),
+pub enum Reading {
     Accepted(Counts),
     // A wrong terminal at a position, one with no action or a closed one, with the expected set and its size.
     NoAction {
@@ -50,18 +50,11 @@ pub enum Answer {
     Broken(Counts),
 }
 
-// How a run ends: with its answer, or before a wrong terminal, where the expected set is yet to be found.
+// How a run ends: with the reading's end, or before a wrong terminal, where the expected set is yet to be found.
 #[derive(Clone, Copy)]
 enum Ending {
-    Final(Answer),
+    Final(Reading),
     Wrong(usize, Counts),
-}
-
-// What comes of some steps: an end, or none, with no step left.
-#[derive(Clone, Copy)]
-enum Progress {
-    Ended(Ending),
-    Paused(State),
 }
 
 // Where a run has been: a fresh reading can go on from there. The second area holds the stack.
@@ -71,11 +64,11 @@ struct Checkpoint {
     position: usize,
 }
 
-// How a run ended, and its last checkpoint.
+// How a run ended, and its last checkpoint, if it came to one.
 #[derive(Clone, Copy)]
 struct Course {
     end: Ending,
-    checkpoint: Checkpoint,
+    checkpoint: Option<Checkpoint>,
 }
 
 fn count(s: State) -> Counts
@@ -89,31 +82,32 @@ fn count(s: State) -> Counts
     }
 }
 
-fn stopped(e: Stop, s: State) -> Answer
+fn stopped(e: Stop, s: State) -> Reading
     requires { Countable count_bits s }
-    ensures { numbers result ≡ stop_number e ∷ reached s }
+    ensures { reading_numbers result ≡ stop_number e ∷ reached s }
 {
     let c = count(s);
     match e {
-        Stop::StackFull => Answer::StackFull(c),
-        Stop::ListFull => Answer::ListFull(c),
-        Stop::Broken => Answer::Broken(c),
+        Stop::StackFull => Reading::StackFull(c),
+        Stop::ListFull => Reading::ListFull(c),
+        Stop::Broken => Reading::Broken(c),
     }
 }
 
 // Acceptance is a step of its own.
-fn accepted(s: State) -> Answer
+fn accepted(s: State) -> Reading
     requires { s.position + s.listed + 1 < 2 ^ count_bits }
-    ensures { numbers result ≡ 0 ∷ accepted_at s }
+    ensures { reading_numbers result ≡ 0 ∷ accepted_at s }
 {
-    Answer::Accepted(Counts {
+    Reading::Accepted(Counts {
         steps: (s.position + s.listed + 1) as u64,
         depth: s.depth,
         listed: s.listed,
     })
 }
 
-// The steps from a state, as many as it has left, over a line with the end of the input or a bar behind it.
+// The steps from a state, as many as it has left, over a line with the end of the input or a bar behind it: the run's
+// end, or the state to go on from, with no step left.
 fn advance(
     table: &[u16],
     cells: &[u16],
@@ -123,7 +117,7 @@ fn advance(
     list: &mut [u16],
     z: Shape,
     from: State,
-) -> Progress
+) -> ControlFlow<Ending, State>
     requires { (Passed table.now line.now (length stack.old)) × (length line.now ≤ 65535) × (Held table.now cells.now stack.old list.old z from) × (from.position + from.listed + from.left < 2 ^ count_bits) }
     ensures { Advances table.now line.now barred cells.now z from (machine_of stack.old list.old from) stack.new list.new result }
 {
@@ -131,22 +125,15 @@ fn advance(
     loop {
         let a = steps::action(cells, line, barred, z, s);
         if a == 0 {
-            return Progress::Ended(Ending::Wrong(s.position, count(s)));
+            return ControlFlow::Break(Ending::Wrong(s.position, count(s)));
         }
         if s.left == 0 {
-            return Progress::Paused(s);
+            return ControlFlow::Continue(s);
         }
-        let n = steps::step(table, cells, stack, list, z, s, a);
-        match n {
-            Next::Ended(e) => {
-                return Progress::Ended(Ending::Final(stopped(e, s)));
-            }
-            Next::Moved(t) => {
-                s = t;
-            }
-            Next::Accepted => {
-                return Progress::Ended(Ending::Final(accepted(s)));
-            }
+        match steps::step(table, cells, stack, list, z, s, a) {
+            Ok(Some(t)) => s = t,
+            Ok(None) => return ControlFlow::Break(Ending::Final(accepted(s))),
+            Err(e) => return ControlFlow::Break(Ending::Final(stopped(e, s))),
         }
     }
 }
@@ -155,12 +142,7 @@ fn advance(
 fn portion(left: u64, depth: usize) -> u64
     ensures { (result ≤ left) × (0 < left → 0 < result) }
 {
-    if left < 512 {
-        return left;
-    }
-    if depth < 512 {
-        return 512;
-    }
+    let depth = depth.max(512);
     if (left as usize) < depth {
         left
     } else {
@@ -181,10 +163,14 @@ fn at_start() -> State
     }
 }
 
-// The checkpoint at a state, with so many steps left.
-fn checkpoint_at(s: State, left: u64) -> Checkpoint
-    ensures { result ≡ checkpoint_at s left }
+// Leaves a checkpoint at a state, with so many steps left: the second area takes the stack. It is called seldom, and
+// stands apart so that the steps have the registers.
+#[inline(never)]
+fn leave_checkpoint(stack: &[u16], second: &mut [u16], s: State, left: u64) -> Checkpoint
+    requires { (s.depth ≤ length stack.now) × (s.depth ≤ length second.old) }
+    ensures { (result ≡ checkpoint_at s left) × (take s.depth second.new ≡ take s.depth stack.now) }
 {
+    scans::copy(stack, second, s.depth);
     Checkpoint {
         spot: Spot {
             depth: s.depth,
@@ -192,20 +178,6 @@ fn checkpoint_at(s: State, left: u64) -> Checkpoint
             top: s.top,
         },
         position: s.position,
-    }
-}
-
-// No checkpoint: no line is longer than this position.
-fn no_checkpoint() -> Checkpoint
-    ensures { result ≡ no_checkpoint }
-{
-    Checkpoint {
-        spot: Spot {
-            depth: 1,
-            left: 0,
-            top: 0,
-        },
-        position: 65535,
     }
 }
 
@@ -226,41 +198,35 @@ fn run(
     let cells = tables::cells_of(table, z);
     stack[0] = 0;
     let mut s = at_start();
-    let mut checkpoint = no_checkpoint();
+    let mut checkpoint = None;
     let mut left = step_limit;
     loop {
         s.left = portion(left, s.depth);
         left -= s.left;
-        let n = advance(table, cells, line, barred, stack, list, z, s);
-        match n {
-            Progress::Ended(end) => {
-                return Course { end, checkpoint };
-            }
-            Progress::Paused(t) => {
-                if left == 0 {
-                    let end = Ending::Final(Answer::StepLimit(count(t)));
-                    return Course { end, checkpoint };
-                }
-                scans::copy(stack, second, t.depth);
-                checkpoint = checkpoint_at(t, left);
-                s = t;
-            }
+        match advance(table, cells, line, barred, stack, list, z, s) {
+            ControlFlow::Break(end) => return Course { end, checkpoint },
+            ControlFlow::Continue(t) => s = t,
         }
+        if left == 0 {
+            let end = Ending::Final(Reading::StepLimit(count(s)));
+            return Course { end, checkpoint };
+        }
+        checkpoint = Some(leave_checkpoint(stack, second, s, left));
     }
 }
 
 // What an exploration tells, with the position and the counts of the run.
-fn told(e: Expected, position: usize, counts: Counts) -> Answer
-    ensures { numbers result ≡ tells e position counts }
+fn told(e: Result<u64, Cut>, position: usize, counts: Counts) -> Reading
+    ensures { reading_numbers result ≡ tells e position counts }
 {
     match e {
-        Expected::Known(word) => Answer::NoAction {
+        Ok(expected) => Reading::NoAction {
             position,
-            expected: word,
-            size: sets::size(word),
+            expected,
+            size: sets::size(expected),
             counts,
         },
-        Expected::Cut => Answer::ExpectedUnknown { position, counts },
+        Err(Cut) => Reading::ExpectedUnknown { position, counts },
     }
 }
 
@@ -271,24 +237,20 @@ fn explore_from(
     closed: u64,
     second: &mut [u16],
     step_limit: u64,
-    checkpoint: Checkpoint,
-) -> Expected
+    checkpoint: Option<Checkpoint>,
+) -> Result<u64, Cut>
     requires { (Checked table.now) × (closed_ok table.now closed ≡ true) × (input_ok table.now line.now ≡ true) × (0 < length second.old) × (ResumesIn table.now line.now step_limit second.old checkpoint) }
     ensures { Explores table.now closed step_limit (length second.old) line.now result }
 {
-    if checkpoint.position < line.len() {
-        return exploration::explore(
-            table,
-            line,
-            closed,
-            second,
-            checkpoint.spot,
-            checkpoint.position,
-            step_limit,
-        );
+    match checkpoint {
+        Some(m) if m.position < line.len() => exploration::explore(
+            table, line, closed, second, m.spot, m.position, step_limit,
+        ),
+        _ => {
+            let s = exploration::begin(second, step_limit);
+            exploration::explore(table, line, closed, second, s, 0, step_limit)
+        }
     }
-    let s = exploration::begin(second, step_limit);
-    exploration::explore(table, line, closed, second, s, 0, step_limit)
 }
 
 // The answer for a wrong terminal at a position: the open terminals that can follow the line before it.
@@ -300,8 +262,8 @@ fn explored(
     step_limit: u64,
     position: usize,
     counts: Counts,
-    checkpoint: Checkpoint,
-) -> Answer
+    checkpoint: Option<Checkpoint>,
+) -> Reading
     requires { (Checked table.now) × (closed_ok table.now closed ≡ true) × (input_ok table.now line.now ≡ true) × (0 < length second.old) × (position ≤ length line.now) × (Resumes table.now line.now step_limit second.old checkpoint) }
     ensures { (m : Machine) → At m position counts → AnswersAt table.now closed line.now step_limit (length second.old) m result }
 {
@@ -324,13 +286,12 @@ fn answered(
     second: &mut [u16],
     step_limit: u64,
     r: Course,
-) -> Answer
+) -> Reading
     requires { (Checked table.now) × (closed_ok table.now closed ≡ true) × (input_ok table.now line.now ≡ true) × (0 < length second.old) × (Explorable (length line.now) r.end) × (Resumes table.now line.now step_limit second.old r.checkpoint) }
     ensures { (o : Outcome) → Says o r.end → Answers table.now closed line.now step_limit (length second.old) o result }
 {
     let checkpoint = r.checkpoint;
-    let end = r.end;
-    match end {
+    match r.end {
         Ending::Final(a) => a,
         Ending::Wrong(position, counts) => {
             explored(
@@ -348,7 +309,7 @@ fn finish(
     second: &mut [u16],
     step_limit: u64,
     r: Course,
-) -> Answer
+) -> Reading
     requires { (Checked table.now) × (closed_ok table.now closed ≡ true) × (input_ok table.now line.now ≡ true) × (0 < length second.old) × (Explorable (length line.now) r.end) × (Resumes table.now line.now step_limit second.old r.checkpoint) }
     ensures { ((o : Outcome) → Says o r.end → Answers table.now closed line.now step_limit (length second.old) o result) × (second.new ≡ replicate (length second.old) 0) }
 {
@@ -368,7 +329,7 @@ fn read(
     list: &mut [u16],
     second: &mut [u16],
     step_limit: u64,
-) -> Answer
+) -> Reading
     requires { Ready table.now line.now closed (length stack.old) (length second.old) }
     ensures { ReadsTo table.now line.now barred closed stack.old list.old second.old step_limit result stack.new list.new second.new }
 {
@@ -384,7 +345,7 @@ pub fn parse(
     list: &mut [u16],
     second: &mut [u16],
     step_limit: u64,
-) -> Answer
+) -> Result<Reading, Refusal>
     ensures { ReadsAs (reading table.now input.now stack.old list.old second.old step_limit) result stack.new list.new second.new }
 {
     parse_restricted(table, input, 0, stack, list, second, step_limit)
@@ -399,9 +360,9 @@ fn read_restricted(
     list: &mut [u16],
     second: &mut [u16],
     step_limit: u64,
-) -> Answer
+) -> Reading
     requires { restricted_refusal table.now closed input.now (length stack.old) (length second.old) ≡ 0 }
-    ensures { ReadsAs (restricted_reading table.now closed input.now stack.old list.old second.old step_limit) result stack.new list.new second.new }
+    ensures { ReadsAs (restricted_reading table.now closed input.now stack.old list.old second.old step_limit) (Ok result) stack.new list.new second.new }
 {
     let n = scans::first_closed(input, closed);
     let barred = n < input.len();
@@ -427,31 +388,25 @@ pub fn parse_restricted(
     list: &mut [u16],
     second: &mut [u16],
     step_limit: u64,
-) -> Answer
+) -> Result<Reading, Refusal>
     ensures { ReadsAs (restricted_reading table.now closed input.now stack.old list.old second.old step_limit) result stack.new list.new second.new }
 {
-    let v = table_checks::check_restricted(table, input, closed, stack.len(), second.len());
-    match v {
-        Verdict::Refused(e) => Answer::Refused(e),
-        Verdict::Passed => {
-            read_restricted(table, input, closed, stack, list, second, step_limit)
-        }
-    }
+    table_checks::check_restricted(table, input, closed, stack.len(), second.len())?;
+    Ok(read_restricted(table, input, closed, stack, list, second, step_limit))
 }
 
 // The terminals of an expected set, ascending, with zeros after them; the result is how many they are.
 pub fn terminals(expected: u64, out: &mut [u8; 64]) -> usize
     ensures { Lists expected result out.new }
 {
-    let mut list = [0u8; 64];
+    *out = [0; 64];
     let mut left = expected;
-    let mut n: usize = 0;
+    let mut n = 0;
     while left != 0 {
         let m = sets::lowest(left);
-        list[n] = m as u8;
+        out[n] = m as u8;
         left = sets::rest(left);
         n += 1;
     }
-    *out = list;
     n
 }

@@ -5,23 +5,24 @@ ghost use Rattle.std.specs.Prelude.{◌≡◌, ◌∷◌, []};
 ghost use Rattle.sets.specs.Bit.{Lowest};
 ghost use Rattle.machine.specs.ComputedRun.{reading, restricted_reading};
 ghost use Rattle.table_checks.specs.Verdict.{refusal_number};
-ghost use Rattle.parser.specs.Answer.{counts_of, numbers};
+ghost use Rattle.parser.specs.Answer.{counts_of, reading_numbers, numbers};
 ghost use Rattle.parser.specs.Terminals.{Lists};
 ghost use Rattle.parser_c.specs.Out.{padded, WritesOut};
 
-use parser::{Answer, Counts};
+use parser::{Counts, Reading};
 use table_checks::Refusal;
 
+#[tactic(auto, unfolding(sets::specs::Lists::covered))]
 fn end(n: u64, c: Counts) -> [u64; 7]
     ensures { result ≡ padded (n ∷ counts_of c) }
 {
     [n, c.steps, c.depth as u64, c.listed as u64, 0, 0, 0]
 }
 
-fn refused(e: Refusal) -> [u64; 7]
-    ensures { result ≡ padded (refusal_number e ∷ []) }
+fn number(e: Refusal) -> u64
+    ensures { result ≡ refusal_number e }
 {
-    let n = match e {
+    match e {
         Refusal::TableShort => 21,
         Refusal::SizesWrong => 22,
         Refusal::ProductionWrong => 23,
@@ -32,17 +33,16 @@ fn refused(e: Refusal) -> [u64; 7]
         Refusal::NoStack => 27,
         Refusal::SecondShort => 45,
         Refusal::ClosedWrong => 50,
-    };
-    [n, 0, 0, 0, 0, 0, 0]
+    }
 }
 
-fn seven(a: Answer) -> [u64; 7]
-    ensures { result ≡ padded (numbers a) }
+#[tactic(auto, unfolding(sets::specs::Lists::covered))]
+fn read(r: Reading) -> [u64; 7]
+    ensures { result ≡ padded (reading_numbers r) }
 {
-    match a {
-        Answer::Refused(e) => refused(e),
-        Answer::Accepted(c) => end(0, c),
-        Answer::NoAction {
+    match r {
+        Reading::Accepted(c) => end(0, c),
+        Reading::NoAction {
             position,
             expected,
             size,
@@ -56,7 +56,7 @@ fn seven(a: Answer) -> [u64; 7]
             expected,
             size as u64,
         ],
-        Answer::ExpectedUnknown { position, counts } => [
+        Reading::ExpectedUnknown { position, counts } => [
             46,
             counts.steps,
             counts.depth as u64,
@@ -65,13 +65,24 @@ fn seven(a: Answer) -> [u64; 7]
             0,
             0,
         ],
-        Answer::StepLimit(c) => end(32, c),
-        Answer::StackFull(c) => end(33, c),
-        Answer::ListFull(c) => end(34, c),
-        Answer::Broken(c) => end(35, c),
+        Reading::StepLimit(c) => end(32, c),
+        Reading::StackFull(c) => end(33, c),
+        Reading::ListFull(c) => end(34, c),
+        Reading::Broken(c) => end(35, c),
     }
 }
 
+#[tactic(auto, unfolding(sets::specs::Lists::covered))]
+fn seven(a: Result<Reading, Refusal>) -> [u64; 7]
+    ensures { result ≡ padded (numbers a) }
+{
+    match a {
+        Ok(r) => read(r),
+        Err(e) => [number(e), 0, 0, 0, 0, 0, 0],
+    }
+}
+
+#[tactic(auto, using(machine::proofs::RestrictedLaws::restricted_none))]
 #[unsafe(no_mangle)]
 pub extern "C" fn sidumza_parse(
     table: &[u16],

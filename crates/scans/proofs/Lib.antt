@@ -1,3 +1,2 @@
 pub mod Cleared
-pub mod Copied
 pub mod Searching

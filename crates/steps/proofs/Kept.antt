@@ -1,6 +1,7 @@
 -- What holds between steps holds after a shift and after a reduction.
 use mathlib.Core.Path.{◌≡◌, refl, sym, ap, ◌∙◌}
 use mathlib.Core.List.{List}
+use Rattle.std.specs.Prelude.{Option, Some, Result, Ok, Err}
 use Prim.Native.Nat.{ℕ, ◌+◌, ◌-◌, ◌*◌, ◌<◌, ◌≤◌}
 use native.Mathlib.Omega.{arith}
 use lib.ListN.{length, get_or, set, length-set}
@@ -12,8 +13,7 @@ use Rattle.tables.specs.declared.Shape.{Shape}
 use Rattle.tables.proofs.Places.{cell_in}
 use Rattle.machine.proofs.Checked.{left_passed, goto_passed, cell_within, left_within}
 use Rattle.steps.specs.State.{machine_of, Held, Stepped, Reducible}
-use Rattle.steps.specs.declared.Next.{Next}
-use Rattle.steps.specs.declared.Next.TheVariants.{Ended, Moved}
+use Rattle.steps.specs.declared.Stop.{Stop}
 use Rattle.steps.specs.declared.Stop.TheVariants.{StackFull, Broken}
 use Rattle.machine.proofs.RunLaws.{popped_length, popped_at, states_more, shifted_goes, reduced_to_none, reduced_to_full, reduced_to_goes, reduced_to_is}
 use Rattle.steps.specs.declared.State.{State}
@@ -23,7 +23,7 @@ unfolding top_of
 top_more st d q h = let e : d + 1 - 1 ≡ d = omega arith in rw e (sym (get_or-set_same st d q 0 h))
 
 -- a step by the same next
-pub restep : {t cs st li : List ℕ} {z : Shape} {s : State} {x : Next} {m m' : machine.Next} → m ≡ m' → Stepped t cs z s st li x m → Stepped t cs z s st li x m'
+pub restep : {t cs st li : List ℕ} {z : Shape} {s : State} {x : Result (Option State) Stop} {m m' : machine.Next} → m ≡ m' → Stepped t cs z s st li x m → Stepped t cs z s st li x m'
 restep e y = record { next = y.next ∙ e; held = y.held }
 
 module _ {t cs st li : List ℕ} {z : Shape} {s : State} where
@@ -42,7 +42,7 @@ module _ {t cs st li : List ℕ} {z : Shape} {s : State} where
   }
 
   pub shift_goes : Held t cs st li z s → 0 < s.left → (a : ℕ) → a < z.states → s.position < 65535 → s.depth < length st
-      → Stepped t cs z s (set st s.depth a) li (Moved (record { depth = s.depth + 1; listed = s.listed; position = s.position + 1; left = s.left - 1; top = a }))
+      → Stepped t cs z s (set st s.depth a) li (Ok (Some (record { depth = s.depth + 1; listed = s.listed; position = s.position + 1; left = s.left - 1; top = a })))
       (shifted a (machine_of st li s))
   shift_goes h more a b p k = record {
     next = let e : s.position + 1 + s.listed ≡ s.position + s.listed + 1 = omega arith in rw e (sym (shifted_goes a (machine_of st li s) k));
@@ -92,16 +92,16 @@ module _ {t cs st li : List ℕ} {z : Shape} {s : State} where
             }
 
         -- the three ways of a reduction, in the values of the code
-        pub reduce_none : q ≡ 0 → Stepped t cs z s st li (Ended Broken) (reduced_to r n (s.depth - n) (cell_of t under (left_of t r)) (machine_of st li s))
+        pub reduce_none : q ≡ 0 → Stepped t cs z s st li (Err Broken) (reduced_to r n (s.depth - n) (cell_of t under (left_of t r)) (machine_of st li s))
         reduce_none e = record { next = sym (reduced_to_none _ _ _ _ _ (sym goto_is ∙ e)); held = tt }
 
         pub reduce_full : (q ≡ 0 → ⊥) → length st ≤ s.depth - n
-            → Stepped t cs z s st li (Ended StackFull) (reduced_to r n (s.depth - n) (cell_of t under (left_of t r)) (machine_of st li s))
+            → Stepped t cs z s st li (Err StackFull) (reduced_to r n (s.depth - n) (cell_of t under (left_of t r)) (machine_of st li s))
         reduce_full e k = record { next = sym (reduced_to_full _ _ _ _ _ (λ y. e (goto_is ∙ y)) k); held = tt }
 
         pub reduce_goes : {p : List ℕ} → p ≡ popped st s.depth n → (q ≡ 0 → ⊥) → s.depth - n < length st
             → Stepped t cs z s (set p (s.depth - n) q) (set li s.listed r)
-            (Moved (record { depth = s.depth - n + 1; listed = s.listed + 1; position = s.position; left = s.left - 1; top = q }))
+            (Ok (Some (record { depth = s.depth - n + 1; listed = s.listed + 1; position = s.position; left = s.left - 1; top = q })))
             (reduced_to r n (s.depth - n) (cell_of t under (left_of t r)) (machine_of st li s))
         reduce_goes {p} ep e₀ k = record {
           next =
@@ -113,7 +113,7 @@ module _ {t cs st li : List ℕ} {z : Shape} {s : State} where
         }
 
     -- the reduction of a production's own length
-    pub reduce_as : {st' li' : List ℕ} {x : Next} → length_of t r ≡ n
+    pub reduce_as : {st' li' : List ℕ} {x : Result (Option State) Stop} → length_of t r ≡ n
         → Stepped t cs z s st' li' x (reduced_to r n (s.depth - n) (cell_of t under (left_of t r)) (machine_of st li s))
         → Stepped t cs z s st' li' x (reduced t r (machine_of st li s))
     reduce_as e y =

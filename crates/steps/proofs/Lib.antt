@@ -1,2 +1,1 @@
-pub mod Barred
 pub mod Kept

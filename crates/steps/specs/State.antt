@@ -1,5 +1,5 @@
 -- The state that the code carries between steps, as the machine of the tables' definitions, and what holds of it.
-use Rattle.std.specs.Prelude.{ℕ, ◌+◌, ◌-◌, ◌^◌, ◌≤◌, ◌<◌, ◌≡◌, List, length, get_or, drop}
+use Rattle.std.specs.Prelude.{ℕ, ◌+◌, ◌-◌, ◌^◌, ◌≤◌, ◌<◌, ◌≡◌, List, length, get_or, drop, Option, Some, None, Result, Ok, Err}
 use Rattle.tables.specs.Layout.{productions}
 use Rattle.machine.specs.ComputedRun as machine
 use Rattle.tables.specs.Shape.{Shaped}
@@ -8,8 +8,6 @@ use Rattle.machine.proofs.Checked.{Checked}
 use Rattle.steps.specs.declared.State.{State}
 use Rattle.steps.specs.declared.Stop.{Stop}
 use Rattle.steps.specs.declared.Stop.TheVariants.{StackFull, ListFull, Broken}
-use Rattle.steps.specs.declared.Next.{Next}
-use Rattle.steps.specs.declared.Next.TheVariants.{Ended, Moved, Accepted}
 
 -- each step made has passed a terminal or listed a production
 abbrev pub machine_of : List ℕ → List ℕ → State → machine.Machine
@@ -25,10 +23,15 @@ stop_number ListFull = 34
 stop_number Broken = 35
 
 -- what a step answers, with the areas at its exit, as the machine's next; s is the state before
-abbrev pub next_of : List ℕ → List ℕ → State → Next → machine.Next
-next_of st li s (Ended e) = machine.ended (stop_number e) (machine_of st li s)
-next_of st li s (Moved n) = machine.moved (machine_of st li n)
-next_of st li s Accepted = machine.accepted (accepted_of st li s)
+abbrev pub next_of : List ℕ → List ℕ → State → Result (Option State) Stop → machine.Next
+next_of st li s (Err e) = machine.ended (stop_number e) (machine_of st li s)
+next_of st li s (Ok (Some n)) = machine.moved (machine_of st li n)
+next_of st li s (Ok None) = machine.accepted (accepted_of st li s)
+
+-- what a shift or a reduction answers, as a step's answer: it accepts nothing
+abbrev pub unaccepted : Result State Stop → Result (Option State) Stop
+unaccepted (Ok n) = Ok (Some n)
+unaccepted (Err e) = Err e
 
 -- what holds between steps: t is a checked table of the sizes z and the rows cs, st and li are the areas
 pub record Held (t cs st li : List ℕ) (z : Shape) (s : State) : Type 0 where
@@ -43,13 +46,13 @@ pub record Held (t cs st li : List ℕ) (z : Shape) (s : State) : Type 0 where
   pub top_is : s.top ≡ machine.top_of st s.depth
 
 -- the same after a step from s, where the machine goes on: one step fewer is left, and one more is made
-abbrev pub HeldNext : List ℕ → List ℕ → List ℕ → List ℕ → Shape → State → Next → Type 0
-HeldNext t cs st li z s (Ended e) = Unit {0}
-HeldNext t cs st li z s (Moved n) = Held t cs st li z n × (n.left + 1 ≡ s.left) × (n.position + n.listed ≡ s.position + s.listed + 1)
-HeldNext t cs st li z s Accepted = Unit {0}
+abbrev pub HeldNext : List ℕ → List ℕ → List ℕ → List ℕ → Shape → State → Result (Option State) Stop → Type 0
+HeldNext t cs st li z s (Err e) = Unit {0}
+HeldNext t cs st li z s (Ok (Some n)) = Held t cs st li z n × (n.left + 1 ≡ s.left) × (n.position + n.listed ≡ s.position + s.listed + 1)
+HeldNext t cs st li z s (Ok None) = Unit {0}
 
 -- the step from s that answers x, with the areas at its exit, is the machine's m
-pub record Stepped (t cs : List ℕ) (z : Shape) (s : State) (st li : List ℕ) (x : Next) (m : machine.Next) : Type 0 where
+pub record Stepped (t cs : List ℕ) (z : Shape) (s : State) (st li : List ℕ) (x : Result (Option State) Stop) (m : machine.Next) : Type 0 where
   pub next : next_of st li s x ≡ m
   pub held : HeldNext t cs st li z s x
 

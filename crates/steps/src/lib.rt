@@ -5,7 +5,7 @@ ghost use Rattle.std.specs.Prelude.{◌≡◌, List, cond, not, ◌&&◌, ℕ, �
 ghost use Rattle.tables.specs.Layout.{productions, left_of, length_of, cell_of};
 ghost use Rattle.machine.specs.ComputedRun.{popped, shifted, reduced_to, reduced, moved_by};
 ghost use Rattle.tables.specs.declared.Shape.{Shape};
-ghost use Rattle.steps.specs.State.{machine_of, Held, Stepped, Reducible, Steppable};
+ghost use Rattle.steps.specs.State.{machine_of, unaccepted, Held, Stepped, Reducible, Steppable};
 
 use tables::Shape;
 
@@ -28,25 +28,12 @@ pub enum Stop {
     Broken,
 }
 
-#[derive(Clone, Copy)]
-pub enum Next {
-    Ended(Stop),
-    Moved(State),
-    Accepted,
-}
-
 // Pops n states: their places become 0.
 fn pop(stack: &mut [u16], depth: usize, n: usize)
     requires { (n ≤ depth) × (depth ≤ length stack.old) }
     ensures { stack.new ≡ popped stack.old depth n }
 {
-    let mut d = depth;
-    let mut k = n;
-    while 0 < k {
-        d -= 1;
-        stack[d] = 0;
-        k -= 1;
-    }
+    stack[depth - n..depth].fill(0);
 }
 
 // The cell of the top state and the next terminal. Behind the line stands the end of the input, or else a bar: then it is 0.
@@ -54,34 +41,31 @@ pub fn action(cells: &[u16], line: &[u8], barred: bool, z: Shape, s: State) -> u
     requires { get_or line.now s.position 0 + s.top * z.width < length cells.now }
     ensures { (result ≡ cond (barred && not (ltb s.position (length line.now))) 0 (get_or cells.now (get_or line.now s.position 0 + s.top * z.width) 0)) × (result < 2 ^ 16) }
 {
-    let i = s.position;
-    if i < line.len() {
-        let x = line[i] as usize;
-        return tables::cell_at(cells, x, s.top * z.width) as usize;
-    }
-    if barred {
-        return 0;
-    }
-    tables::cell_at(cells, 0, s.top * z.width) as usize
+    let terminal = match line.get(s.position) {
+        Some(x) => *x as usize,
+        None if barred => return 0,
+        None => 0,
+    };
+    tables::cell_at(cells, terminal, s.top * z.width) as usize
 }
 
-fn shift(stack: &mut [u16], s: State, a: usize) -> Next
+fn shift(stack: &mut [u16], s: State, a: usize) -> Result<State, Stop>
     requires { (a < 2 ^ 16) × (s.position < 65535) × (0 < s.left) }
-    ensures { (t cs li : List ℕ) (z : Shape) → Held t cs stack.old li z s → a < z.states → Stepped t cs z s stack.new li result (shifted a (machine_of stack.old li s)) }
+    ensures { (t cs li : List ℕ) (z : Shape) → Held t cs stack.old li z s → a < z.states → Stepped t cs z s stack.new li (unaccepted result) (shifted a (machine_of stack.old li s)) }
 {
     let at = s.depth;
     if at < stack.len() {
         let left = s.left - 1;
         stack[at] = a as u16;
-        Next::Moved(State {
+        Ok(State {
             depth: at + 1,
-            listed: s.listed,
             position: s.position + 1,
             left,
             top: a,
+            ..s
         })
     } else {
-        Next::Ended(Stop::StackFull)
+        Err(Stop::StackFull)
     }
 }
 
@@ -96,30 +80,30 @@ fn reduce_from(
     r: usize,
     n: usize,
     under: usize,
-) -> Next
+) -> Result<State, Stop>
     requires { Reducible table.now cells.now stack.old list.old z s r n under }
-    ensures { Stepped table.now cells.now z s stack.new list.new result (reduced_to r n (s.depth - n) (cell_of table.now under (left_of table.now r)) (machine_of stack.old list.old s)) }
+    ensures { Stepped table.now cells.now z s stack.new list.new (unaccepted result) (reduced_to r n (s.depth - n) (cell_of table.now under (left_of table.now r)) (machine_of stack.old list.old s)) }
 {
     let d = s.depth - n;
     let k = s.listed;
     let left = tables::left(table, r) as usize;
     let q = tables::cell_at(cells, under * z.width, left);
     if q == 0 {
-        return Next::Ended(Stop::Broken);
+        return Err(Stop::Broken);
     }
     if d < stack.len() {
         pop(stack, s.depth, n);
         stack[d] = q;
         list[k] = r as u16;
-        Next::Moved(State {
+        Ok(State {
             depth: d + 1,
             listed: k + 1,
-            position: s.position,
             left: s.left - 1,
             top: q as usize,
+            ..s
         })
     } else {
-        Next::Ended(Stop::StackFull)
+        Err(Stop::StackFull)
     }
 }
 
@@ -132,15 +116,15 @@ fn reduce_empty(
     z: Shape,
     s: State,
     r: usize,
-) -> Next
+) -> Result<State, Stop>
     requires { (Held table.now cells.now stack.old list.old z s) × (r < productions table.now) × (length_of table.now r ≡ 0) × (0 < s.left) }
-    ensures { Stepped table.now cells.now z s stack.new list.new result (reduced table.now r (machine_of stack.old list.old s)) }
+    ensures { Stepped table.now cells.now z s stack.new list.new (unaccepted result) (reduced table.now r (machine_of stack.old list.old s)) }
 {
     let k = s.listed;
     if k < list.len() {
         return reduce_from(table, cells, stack, list, z, s, r, 0, s.top);
     }
-    Next::Ended(Stop::ListFull)
+    Err(Stop::ListFull)
 }
 
 // The reduction by production r, whose length is n.
@@ -153,19 +137,19 @@ fn reduce(
     s: State,
     r: usize,
     n: usize,
-) -> Next
+) -> Result<State, Stop>
     requires { (Held table.now cells.now stack.old list.old z s) × (r < productions table.now) × (length_of table.now r ≡ n) × (0 < s.left) }
-    ensures { Stepped table.now cells.now z s stack.new list.new result (reduced table.now r (machine_of stack.old list.old s)) }
+    ensures { Stepped table.now cells.now z s stack.new list.new (unaccepted result) (reduced table.now r (machine_of stack.old list.old s)) }
 {
     if s.listed < list.len() {
         if n < s.depth {
             let under = stack[s.depth - n - 1] as usize;
             reduce_from(table, cells, stack, list, z, s, r, n, under)
         } else {
-            Next::Ended(Stop::Broken)
+            Err(Stop::Broken)
         }
     } else {
-        Next::Ended(Stop::ListFull)
+        Err(Stop::ListFull)
     }
 }
 
@@ -179,9 +163,9 @@ fn reduce_by(
     z: Shape,
     s: State,
     r: usize,
-) -> Next
+) -> Result<State, Stop>
     requires { (Held table.now cells.now stack.old list.old z s) × (r < productions table.now) × (0 < s.left) }
-    ensures { Stepped table.now cells.now z s stack.new list.new result (reduced table.now r (machine_of stack.old list.old s)) }
+    ensures { Stepped table.now cells.now z s stack.new list.new (unaccepted result) (reduced table.now r (machine_of stack.old list.old s)) }
 {
     let n = tables::length_of(table, z, r) as usize;
     if n < 2 {
@@ -201,7 +185,7 @@ fn reduce_by(
     }
 }
 
-// The step that a cell other than 0 asks for.
+// The step that a cell other than 0 asks for; none where the input is accepted.
 pub fn step(
     table: &[u16],
     cells: &[u16],
@@ -210,15 +194,15 @@ pub fn step(
     z: Shape,
     s: State,
     a: usize,
-) -> Next
+) -> Result<Option<State>, Stop>
     requires { Steppable table.now cells.now stack.old list.old z s a }
     ensures { Stepped table.now cells.now z s stack.new list.new result (moved_by table.now a (machine_of stack.old list.old s)) }
 {
     if a < 1024 {
-        shift(stack, s, a)
+        shift(stack, s, a).map(Some)
     } else if a == 4096 {
-        Next::Accepted
+        Ok(None)
     } else {
-        reduce_by(table, cells, stack, list, z, s, a - 1024)
+        reduce_by(table, cells, stack, list, z, s, a - 1024).map(Some)
     }
 }

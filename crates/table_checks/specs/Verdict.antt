@@ -1,9 +1,7 @@
 -- The paper's number of each refusal.
-use Rattle.std.specs.Prelude.{ℕ}
+use Rattle.std.specs.Prelude.{ℕ, Result, Ok, Err}
 use Rattle.table_checks.specs.declared.Refusal.{Refusal}
 use Rattle.table_checks.specs.declared.Refusal.TheVariants.{TableShort, SizesWrong, ProductionWrong, CellWrong, EntryWrong, InputLong, TerminalWrong, NoStack, SecondShort, ClosedWrong}
-use Rattle.table_checks.specs.declared.Verdict.{Verdict}
-use Rattle.table_checks.specs.declared.Verdict.TheVariants.{Passed, Refused}
 
 abbrev pub refusal_number : Refusal → ℕ
 refusal_number TableShort = 21
@@ -17,6 +15,7 @@ refusal_number NoStack = 27
 refusal_number SecondShort = 45
 refusal_number ClosedWrong = 50
 
-abbrev pub verdict_number : Verdict → ℕ
-verdict_number Passed = 0
-verdict_number (Refused e) = refusal_number e
+-- the number of what the checks answer; 0 where nothing is refused
+abbrev pub verdict_number : Result (Unit {0}) Refusal → ℕ
+verdict_number (Ok u) = 0
+verdict_number (Err e) = refusal_number e

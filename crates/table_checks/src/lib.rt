@@ -8,7 +8,7 @@ ghost use Rattle.machine.specs.Checks.{input_ok, table_refusal, input_refusal, a
 ghost use Rattle.cell_checks.specs.Rows.{Whole};
 ghost use Rattle.table_checks.specs.Verdict.{verdict_number};
 
-use cell_checks::{both, cells_ok, productions_ok, sizes_ok};
+use cell_checks::{cells_ok, productions_ok, sizes_ok};
 use entry_checks::entries_ok;
 use tables::Shape;
 
@@ -26,28 +26,20 @@ pub enum Refusal {
     ClosedWrong,
 }
 
-#[derive(Clone, Copy)]
-pub enum Verdict {
-    Passed,
-    Refused(Refusal),
-}
-
 // Whether each terminal of the input is at least 1 and below n.
+#[tactic(auto, using(sets::proofs::TestLaws::all_step), unfolding(sets::specs::Tests::all_below, machine::specs::Checks::input_ok, machine::specs::Checks::terminal_ok))]
 fn input_ok(l: &[u8], n: u8) -> bool
     ensures { (t : List ℕ) → terminals t ≡ n → result ≡ input_ok t l.now }
 {
     let mut ok = true;
-    let mut i: usize = 0;
-    while i < l.len() {
-        let b = l[i];
-        ok = both(ok, both(0 < b, b < n));
-        i += 1;
+    for &b in l {
+        ok &= (0 < b) & (b < n);
     }
     ok
 }
 
 // The first refusal that applies to a table of allowed sizes that is long enough. All are tested before the first is chosen; a good table needs all.
-fn check_parts(t: &[u16], z: Shape) -> Verdict
+fn check_parts(t: &[u16], z: Shape) -> Result<(), Refusal>
     requires { Whole t.now z }
     ensures { verdict_number result ≡ table_refusal t.now }
 {
@@ -55,85 +47,84 @@ fn check_parts(t: &[u16], z: Shape) -> Verdict
     let cells = cells_ok(t, z);
     let entries = entries_ok(t, z);
     if !productions {
-        return Verdict::Refused(Refusal::ProductionWrong);
+        return Err(Refusal::ProductionWrong);
     }
     if !cells {
-        return Verdict::Refused(Refusal::CellWrong);
+        return Err(Refusal::CellWrong);
     }
     if !entries {
-        return Verdict::Refused(Refusal::EntryWrong);
+        return Err(Refusal::EntryWrong);
     }
-    Verdict::Passed
+    Ok(())
 }
 
 // The first refusal that applies to a table.
-fn check_table(t: &[u16]) -> Verdict
+#[tactic(auto, unfolding(machine::specs::Checks::table_refusal))]
+fn check_table(t: &[u16]) -> Result<(), Refusal>
     ensures { verdict_number result ≡ table_refusal t.now }
 {
     if t.len() < 4 {
-        return Verdict::Refused(Refusal::TableShort);
+        return Err(Refusal::TableShort);
     }
     let z = tables::shape_of(t);
     if !sizes_ok(t, z) {
-        return Verdict::Refused(Refusal::SizesWrong);
+        return Err(Refusal::SizesWrong);
     }
     if t.len() < tables::size(t, z) {
-        return Verdict::Refused(Refusal::TableShort);
+        return Err(Refusal::TableShort);
     }
     check_parts(t, z)
 }
 
 // The first refusal that applies to an input for a table.
-fn check_input(t: &[u16], l: &[u8]) -> Verdict
+#[tactic(auto, using(machine::proofs::Checked::checked), unfolding(machine::specs::Checks::input_refusal))]
+fn check_input(t: &[u16], l: &[u8]) -> Result<(), Refusal>
     requires { table_refusal t.now ≡ 0 }
     ensures { verdict_number result ≡ input_refusal t.now l.now }
 {
     if 65535 < l.len() {
-        return Verdict::Refused(Refusal::InputLong);
+        return Err(Refusal::InputLong);
     }
     if !input_ok(l, tables::shape_of(t).terminals as u8) {
-        return Verdict::Refused(Refusal::TerminalWrong);
+        return Err(Refusal::TerminalWrong);
     }
-    Verdict::Passed
+    Ok(())
 }
 
 // The first refusal that applies to a stack area of n places and a second one of k.
-fn check_areas(n: usize, k: usize) -> Verdict
+#[tactic(auto, unfolding(machine::specs::Checks::area_refusal))]
+fn check_areas(n: usize, k: usize) -> Result<(), Refusal>
     ensures { verdict_number result ≡ area_refusal n k }
 {
     if n == 0 {
-        return Verdict::Refused(Refusal::NoStack);
+        return Err(Refusal::NoStack);
     }
     if k < n {
-        return Verdict::Refused(Refusal::SecondShort);
+        return Err(Refusal::SecondShort);
     }
-    Verdict::Passed
+    Ok(())
 }
 
 // The first refusal that applies to an input for a table and to stack areas of n and k places.
-fn check_lent(t: &[u16], l: &[u8], n: usize, k: usize) -> Verdict
+fn check_lent(t: &[u16], l: &[u8], n: usize, k: usize) -> Result<(), Refusal>
     requires { table_refusal t.now ≡ 0 }
     ensures { verdict_number result ≡ first_refusal (input_refusal t.now l.now) (area_refusal n k) }
 {
-    let v = check_input(t, l);
-    match v {
-        Verdict::Refused(e) => Verdict::Refused(e),
-        Verdict::Passed => check_areas(n, k),
-    }
+    check_input(t, l)?;
+    check_areas(n, k)
 }
 
 // The first refusal that applies to a table, an input and stack areas of n and k places.
-pub fn check(t: &[u16], l: &[u8], n: usize, k: usize) -> Verdict
+#[tactic(auto, unfolding(machine::specs::Checks::refusal_of))]
+pub fn check(t: &[u16], l: &[u8], n: usize, k: usize) -> Result<(), Refusal>
     ensures { verdict_number result ≡ refusal_of t.now l.now n k }
 {
-    let v = check_table(t);
-    match v {
-        Verdict::Refused(e) => Verdict::Refused(e),
-        Verdict::Passed => check_lent(t, l, n, k),
-    }
+    check_table(t)?;
+    check_lent(t, l, n, k)
 }
 
 // Whether no closed terminal is 0 or at least n. A word has no bit from 64 on.
+#[tactic(auto, using(crate::proofs::ClosedLaws::zero_closed, crate::proofs::ClosedLaws::within_word))]
 fn closed_ok(closed: u64, n: usize) -> bool
     ensures { (t : List ℕ) → terminals t ≡ n → result ≡ closed_ok t closed }
 {
@@ -144,23 +135,22 @@ fn closed_ok(closed: u64, n: usize) -> bool
 }
 
 // Whether 50 applies to a word of closed terminals for a table.
-fn check_closed(t: &[u16], closed: u64) -> Verdict
+#[tactic(auto, using(machine::proofs::Checked::checked))]
+fn check_closed(t: &[u16], closed: u64) -> Result<(), Refusal>
     requires { table_refusal t.now ≡ 0 }
     ensures { verdict_number result ≡ unless (closed_ok t.now closed) 50 0 }
 {
     if !closed_ok(closed, tables::shape_of(t).terminals) {
-        return Verdict::Refused(Refusal::ClosedWrong);
+        return Err(Refusal::ClosedWrong);
     }
-    Verdict::Passed
+    Ok(())
 }
 
 // The same as `check`, with a word of closed terminals behind all.
-pub fn check_restricted(t: &[u16], l: &[u8], closed: u64, n: usize, k: usize) -> Verdict
+#[tactic(auto, using(sets::proofs::TestLaws::neither), unfolding(machine::specs::Checks::restricted_refusal, machine::specs::Checks::refusal_of))]
+pub fn check_restricted(t: &[u16], l: &[u8], closed: u64, n: usize, k: usize) -> Result<(), Refusal>
     ensures { verdict_number result ≡ restricted_refusal t.now closed l.now n k }
 {
-    let v = check(t, l, n, k);
-    match v {
-        Verdict::Refused(e) => Verdict::Refused(e),
-        Verdict::Passed => check_closed(t, closed),
-    }
+    check(t, l, n, k)?;
+    check_closed(t, closed)
 }

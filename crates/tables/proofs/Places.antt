@@ -1,21 +1,15 @@
--- Where the places of a table lie: parts of a slice, and that a cell is within the rows.
+-- Where the places of a table lie: that a cell is within the rows.
 use mathlib.Core.Path.{◌≡◌, refl, sym, ap, ◌∙◌}
 use mathlib.Core.List.{List}
 use Prim.Native.Nat.{ℕ, ◌+◌, ◌-◌, ◌*◌, ◌^◌, ◌<◌, ◌≤◌}
-use native.Mathlib.Nat.{suc-mul, mul-le-mul_right, le_refl}
+use native.Mathlib.Nat.{suc-mul, mul-le-mul_right}
 use native.Mathlib.Omega.{arith}
-use lib.ListN.{length, get_or, take, drop, length-drop}
-use lib.Seq.{get_or-take, get_or-drop, take_all}
+use lib.ListN.{get_or, drop}
+use lib.Seq.{get_or-drop}
 use Rattle.tables.specs.Layout.{nonterminals, width, cell_of, size_of}
 use Rattle.tables.specs.Shape.{Shaped}
 use Rattle.tables.specs.declared.Shape.{Shape}
 use Rattle.tables.proofs.Product.{below}
-
-pub part_get_d : (l : List ℕ) (a i : ℕ) → a + i < length l → get_or (take (length l - a) (drop a l)) i 0 ≡ get_or l (a + i) 0
-part_get_d l a i h = get_or-take (length l - a) (drop a l) i 0 (omega arith) ∙ get_or-drop a l i 0
-
-pub part_all : (l : List ℕ) (a : ℕ) → take (length l - a) (drop a l) ≡ drop a l
-part_all l a = take_all (length l - a) (drop a l) (rw (length-drop a l) (le_refl (length l - a)))
 
 -- row q of n rows of w cells ends within them
 pub row_within : (w q n : ℕ) → q < n → q * w + w ≤ n * w

@@ -64,31 +64,25 @@ pub struct Shape {
     pub cells: usize,
 }
 
-// The number at place i.
-fn number(t: &[u16], i: usize) -> usize
-    requires { i < length t.now }
-    ensures { (result ≡ get_or t.now i 0) × (result < 2 ^ 16) }
-{
-    t[i] as usize
-}
-
+#[tactic(auto, unfolding(crate::specs::Layout::states, crate::specs::Layout::terminals, crate::specs::Layout::nonterminals, crate::specs::Layout::productions, crate::specs::Layout::width))]
 pub fn shape_of(t: &[u16]) -> Shape
     requires { 4 ≤ length t.now }
     ensures { Shaped t.now result }
 {
-    let q = number(t, STATES);
-    let n = number(t, TERMINALS);
-    let p = number(t, PRODUCTIONS);
+    let q = t[STATES] as usize;
+    let n = t[TERMINALS] as usize;
+    let p = t[PRODUCTIONS] as usize;
     Shape {
         states: q,
         terminals: n,
         productions: p,
-        width: n + number(t, NONTERMINALS),
+        width: n + t[NONTERMINALS] as usize,
         cells: cells_at(p, q),
     }
 }
 
 // How many numbers the sizes ask for.
+#[tactic(auto, using(crate::proofs::Places::size_of_is, crate::proofs::Places::size_fits))]
 pub fn size(t: &[u16], z: Shape) -> usize
     requires { Shaped t.now z }
     ensures { result ≡ size_of t.now }
@@ -97,6 +91,7 @@ pub fn size(t: &[u16], z: Shape) -> usize
 }
 
 // The left side of production r.
+#[tactic(auto, unfolding(crate::specs::Layout::left_of))]
 pub fn left(t: &[u16], r: usize) -> u16
     requires { left_at r < length t.now }
     ensures { result ≡ left_of t.now r }
@@ -105,6 +100,7 @@ pub fn left(t: &[u16], r: usize) -> u16
 }
 
 // The length of the right side of production r.
+#[tactic(auto, unfolding(crate::specs::Layout::length_of))]
 pub fn length_of(t: &[u16], z: Shape, r: usize) -> u16
     requires { (Shaped t.now z) × (length_at (productions t.now) r < length t.now) }
     ensures { result ≡ length_of t.now r }
@@ -113,6 +109,7 @@ pub fn length_of(t: &[u16], z: Shape, r: usize) -> u16
 }
 
 // The entry of state q: in the maker's tables the symbol under which it is entered.
+#[tactic(auto, unfolding(crate::specs::Layout::entered_of))]
 pub fn entered(t: &[u16], z: Shape, q: usize) -> u16
     requires { (Shaped t.now z) × (entered_at (productions t.now) q < length t.now) }
     ensures { result ≡ entered_of t.now q }
@@ -125,8 +122,7 @@ pub fn cells_of(t: &[u16], z: Shape) -> &[u16]
     requires { z.cells ≤ length t.now }
     ensures { result.now ≡ drop z.cells t.now }
 {
-    let from = z.cells;
-    &t[from..]
+    &t[z.cells..]
 }
 
 // The cell at i behind place from: a row and a column, in either order.

@@ -1,5 +1,5 @@
 -- Where an exploratory parse stands in its stack area, and what a shift or a reduction makes of it.
-use Rattle.std.specs.Prelude.{ℕ, ◌+◌, ◌≤◌, ◌<◌, ◌≡◌, List, ◌∷◌, reverse, length, drop, take}
+use Rattle.std.specs.Prelude.{ℕ, ◌+◌, ◌≤◌, ◌<◌, ◌≡◌, List, ◌∷◌, reverse, length, drop, take, Result, Ok, Err}
 use Rattle.tables.specs.Layout.{states, cell_of, left_of, length_of}
 use Rattle.tables.specs.Shape.{Shaped}
 use Rattle.tables.specs.declared.Shape.{Shape}
@@ -7,8 +7,8 @@ use Rattle.machine.specs.LrMachine as machine
 use Rattle.machine.proofs.Checked.{Checked}
 use Rattle.machine.proofs.Shifts.{Below}
 use Rattle.unlisted_steps.specs.declared.Spot.{Spot}
-use Rattle.unlisted_steps.specs.declared.Next.{Next}
-use Rattle.unlisted_steps.specs.declared.Next.TheVariants.{Moved, Full, Broken}
+use Rattle.unlisted_steps.specs.declared.Stop.{Stop}
+use Rattle.unlisted_steps.specs.declared.Stop.TheVariants.{Full, Broken}
 
 -- a checked table of the sizes z and the rows cs
 pub record Readable (t cs : List ℕ) (z : Shape) : Type 0 where
@@ -31,13 +31,13 @@ pub record Standing (t st : List ℕ) (s : Spot) : Type 0 where
   pub stands : Stands t st s state under
 
 -- what comes of a shift to state a; st is the area at its exit
-pub data Shifts (t st : List ℕ) (s : Spot) (q : ℕ) (qs : List ℕ) (a : ℕ) : Next → Type 0 where
-  moved : {n : Spot} → Stands t st n a (q ∷ qs) → n.left + 1 ≡ s.left → Shifts t st s q qs a (Moved n)
-  full : length (q ∷ qs) ≡ length st → Shifts t st s q qs a Full
+pub data Shifts (t st : List ℕ) (s : Spot) (q : ℕ) (qs : List ℕ) (a : ℕ) : Result Spot Stop → Type 0 where
+  moved : {n : Spot} → Stands t st n a (q ∷ qs) → n.left + 1 ≡ s.left → Shifts t st s q qs a (Ok n)
+  full : length (q ∷ qs) ≡ length st → Shifts t st s q qs a (Err Full)
 
 -- what comes of a reduction by production r
-pub data Reduces (t st : List ℕ) (s : Spot) (q : ℕ) (qs : List ℕ) (r : ℕ) : Next → Type 0 where
+pub data Reduces (t st : List ℕ) (s : Spot) (q : ℕ) (qs : List ℕ) (r : ℕ) : Result Spot Stop → Type 0 where
   moved : {n : Spot} (p : ℕ) (ps : List ℕ) → drop (length_of t r) (q ∷ qs) ≡ p ∷ ps → 0 < cell_of t p (left_of t r) → Stands t st n (cell_of t p (left_of t r)) (p ∷ ps) → n.left + 1 ≡ s.left
-      → Reduces t st s q qs r (Moved n)
-  full : (p : ℕ) (ps : List ℕ) → drop (length_of t r) (q ∷ qs) ≡ p ∷ ps → 0 < cell_of t p (left_of t r) → length (p ∷ ps) ≡ length st → Reduces t st s q qs r Full
-  broken : machine.Broken t r (q ∷ qs) → Reduces t st s q qs r Broken
+      → Reduces t st s q qs r (Ok n)
+  full : (p : ℕ) (ps : List ℕ) → drop (length_of t r) (q ∷ qs) ≡ p ∷ ps → 0 < cell_of t p (left_of t r) → length (p ∷ ps) ≡ length st → Reduces t st s q qs r (Err Full)
+  broken : machine.Broken t r (q ∷ qs) → Reduces t st s q qs r (Err Broken)

@@ -15,29 +15,28 @@ pub struct Spot {
     pub top: usize,
 }
 
-// The spot after a step, or why it cannot be made: no place is left, or the reduction would pop state 0 or leads to none.
+// Why a step cannot be made: no place is left, or the reduction would pop state 0 or leads to none.
 #[derive(Clone, Copy)]
-pub enum Next {
-    Moved(Spot),
+pub enum Stop {
     Full,
     Broken,
 }
 
-// The shift to state a.
-pub fn shift(second: &mut [u16], s: Spot, a: usize) -> Next
+// The shift to state a: the spot behind it.
+pub fn shift(second: &mut [u16], s: Spot, a: usize) -> Result<Spot, Stop>
     requires { (a < 2 ^ 16) × (0 < s.left) }
     ensures { (t : List ℕ) (q : ℕ) (qs : List ℕ) → Stands t second.old s q qs → a < states t → Shifts t second.new s q qs a result }
 {
     let at = s.depth;
     if at < second.len() {
         second[at] = a as u16;
-        Next::Moved(Spot {
+        Ok(Spot {
             depth: at + 1,
             left: s.left - 1,
             top: a,
         })
     } else {
-        Next::Full
+        Err(Stop::Full)
     }
 }
 
@@ -58,13 +57,13 @@ fn reduce_empty(
     z: Shape,
     s: Spot,
     r: usize,
-) -> Next
+) -> Result<Spot, Stop>
     requires { (Readable table.now cells.now z) × (Standing table.now second.old s) × (r < productions table.now) × (length_of table.now r ≡ 0) × (0 < s.left) }
     ensures { (q : ℕ) (qs : List ℕ) → Stands table.now second.old s q qs → Reduces table.now second.new s q qs r result }
 {
     let q = goto(table, cells, z, s.top, r);
     if q == 0 {
-        return Next::Broken;
+        return Err(Stop::Broken);
     }
     shift(second, s, q)
 }
@@ -78,18 +77,18 @@ fn reduce_of(
     s: Spot,
     r: usize,
     n: usize,
-) -> Next
+) -> Result<Spot, Stop>
     requires { (Readable table.now cells.now z) × (Standing table.now second.old s) × (r < productions table.now) × (length_of table.now r ≡ n) × (0 < s.left) }
     ensures { (q : ℕ) (qs : List ℕ) → Stands table.now second.old s q qs → Reduces table.now second.new s q qs r result }
 {
     if s.depth <= n {
-        return Next::Broken;
+        return Err(Stop::Broken);
     }
     let d = s.depth - n;
     let under = second[d - 1] as usize;
     let q = goto(table, cells, z, under, r);
     if q == 0 {
-        return Next::Broken;
+        return Err(Stop::Broken);
     }
     let popped = Spot {
         depth: d,
@@ -107,7 +106,7 @@ pub fn reduce_any(
     z: Shape,
     s: Spot,
     r: usize,
-) -> Next
+) -> Result<Spot, Stop>
     requires { (Readable table.now cells.now z) × (Standing table.now second.old s) × (r < productions table.now) × (0 < s.left) }
     ensures { (q : ℕ) (qs : List ℕ) → Stands table.now second.old s q qs → Reduces table.now second.new s q qs r result }
 {
@@ -117,7 +116,14 @@ pub fn reduce_any(
 
 // The same, for a loop that reduces often. The usual lengths stand apart: where the length is guessed right, the state
 // under the popped ones is read without waiting for it.
-pub fn reduce(table: &[u16], cells: &[u16], second: &mut [u16], z: Shape, s: Spot, r: usize) -> Next
+pub fn reduce(
+    table: &[u16],
+    cells: &[u16],
+    second: &mut [u16],
+    z: Shape,
+    s: Spot,
+    r: usize,
+) -> Result<Spot, Stop>
     requires { (Readable table.now cells.now z) × (Standing table.now second.old s) × (r < productions table.now) × (0 < s.left) }
     ensures { (q : ℕ) (qs : List ℕ) → Stands table.now second.old s q qs → Reduces table.now second.new s q qs r result }
 {
