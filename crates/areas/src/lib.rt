@@ -16,6 +16,6 @@ pub fn row(c: &[u16], q: usize) -> usize
     requires { row_of c.now q ≤ table_size }
     ensures { result ≡ row_of c.now q }
 {
-    let width = card::wide(card::terminals(c)) + card::wide(card::nonterminals(c));
-    tables::header_size(card::wide(card::productions(c))) + q * width
+    let width = usize::from(card::terminals(c)) + usize::from(card::nonterminals(c));
+    tables::header_size(usize::from(card::productions(c))) + q * width
 }

@@ -1,1 +1,2 @@
+mod RangeLaws
 pub mod PassLaws

@@ -1,6 +1,6 @@
 -- What the pass holds, symbol by symbol and production by production; that 8 and 9 are read off its end.
 use mathlib.Core.Path.{◌≡◌, refl, sym, ap, ap₂, ◌∙◌}
-use mathlib.Core.Bool.{Bool, true, false, false≢true}
+use mathlib.Core.Bool.{Bool, true, false, not, false≢true}
 use mathlib.Core.List.{List}
 use mathlib.Core.Logic.{⊎_elim}
 use Prim.Native.Nat.{ℕ, zero, suc, ◌+◌, ◌*◌, ◌≤◌, ◌<◌, min, zero-le}
@@ -8,9 +8,9 @@ use native.Mathlib.Nat.{le_of_eq}
 use native.Mathlib.Numerals.{add-one}
 use native.Mathlib.Omega.{arith}
 use lib.ListN.{get_or}
-use borrow.Author.Tests.{eqb-true, eq-eqb, ne_eqb}
+use borrow.Author.Tests.{eqb-true, eq-eqb, ne_eqb, not-true}
 use Rattle.sets.specs.Bit.{Tells}
-use Rattle.sets.proofs.HasLaws.{lt_or_ge, below_suc}
+use Rattle.sets.proofs.HasLaws.{lt_or_ge}
 use Rattle.sets.proofs.TestLaws.{all_fails, all_true}
 use Rattle.grammar.specs.Card.{productions, symbols, length_of, symbols_at, symbol_of, start_of, is_symbol, lefts_ok, rights_ok, form_fault}
 use Rattle.card.specs.Pass.{BadSymbol, After, SymbolsThere, Sized}
@@ -36,22 +36,14 @@ module _ (c : List ℕ) where
       held : ℕ → Bool → PassState
       held s b = record { sum = s; fault = b }
 
-  -- ---- one symbol more
-
-  -- what a test says of the number at symbol k's place, it says of symbol k
-  pub of_symbol : (i k : ℕ) {b : Bool} → i ≡ symbols_at c + k → b ≡ is_symbol c (get_or c i 0) → is_symbol c (symbol_of c k) ≡ b
+  -- a test of the numbers behind the place where the symbols begin is one of the symbols
+  pub bad_told : (i a b : ℕ) (r : Bool) → i ≡ symbols_at c → Tells r ((k : ℕ) × (a ≤ k) × (k < b) × (not (is_symbol c (get_or c (i + k) 0)) ≡ true)) → Tells r (BadSymbol c a b)
   unfolding symbol_of
-  of_symbol i k e t = sym (rw e at t)
-
-  pub none_here : (a : ℕ) → BadSymbol c a a → ⊥
-  none_here a x = omega (arith, x.from, x.to)
-
-  pub none_more : (a k : ℕ) → (BadSymbol c a k → ⊥) → is_symbol c (symbol_of c k) ≡ true → BadSymbol c a (k + 1) → ⊥
-  none_more a k h e x =
-      ⊎_elim
-      (λ w. h (record { place = x.place; from = x.from; to = w; bad = x.bad }))
-      (λ w. false≢true (sym x.bad ∙ ap (λ (i : ℕ). is_symbol c (symbol_of c i)) w ∙ e))
-      (below_suc x.to)
+  bad_told i a b r e t =
+      record {
+        yes = λ y. let w = t.yes y in record { place = w.0; from = w.1; to = w.2; bad = rw e at (not-true _ w.3) };
+        so = λ x. t.so (x.place, x.from, x.to, rw e (ap not x.bad));
+      }
 
   -- ---- one production more
 
@@ -64,10 +56,10 @@ module _ (c : List ℕ) where
   next_sum r d p h e = rw (add-one, h.sum, e)
 
   -- a fault stays
-  pub next_faulty : (r d : ℕ) (p : PassState) → After c r p → d ≡ length_of c r → p.fault ≡ true → After c (r + 1) (record { sum = p.sum + d; fault = true })
+  pub next_faulty : (r d : ℕ) (p : PassState) → After c r p → d ≡ length_of c r → p.fault ≡ true → After c (r + 1) (record { sum = p.sum + d; fault = p.fault })
   next_faulty r d p h e f =
       let more = next_sum r d p h e in
-      record { sum = more; fault = record { yes = λ _. bad_within zero-le (omega (arith, h.sum)) (h.fault.yes f); so = λ _. refl } }
+      record { sum = more; fault = record { yes = λ _. bad_within zero-le (omega (arith, h.sum)) (h.fault.yes f); so = λ _. f } }
 
   -- without one so far, there is one just where it is among the symbols of the production
   pub next_sound : (r d : ℕ) (p : PassState) (b : Bool) → After c r p → d ≡ length_of c r → p.fault ≡ false → Tells b (BadSymbol c p.sum (min (p.sum + d) (symbols c))) → After c (r + 1) (record { sum = p.sum + d; fault = b })

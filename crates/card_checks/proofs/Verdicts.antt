@@ -1,66 +1,79 @@
 -- Each card has at most one verdict, and what the verdicts say.
 use mathlib.Core.Path.{◌≡◌, refl, sym, ap, ◌∙◌}
-use mathlib.Core.Logic.{◌≢◌}
 use mathlib.Core.Bool.{Bool, true, false, cond}
 use mathlib.Core.List.{List, [], ◌∷◌}
-use Prim.Native.Nat.{ℕ, ◌+◌, ◌*◌, ◌≤◌, ◌<◌}
+use Prim.Native.Nat.{ℕ, ◌+◌, ◌*◌, ◌<◌}
 use native.Mathlib.Omega.{arith}
 use native.Mathlib.Decide.{dec_lt}
 use lib.ListN.{length, get_or}
 use lib.Dec.{leb, eqb}
-use Rattle.sets.specs.Lists.{covered}
 use Rattle.sets.specs.Tests.{unless}
 use Rattle.grammar.specs.Card.{terminals, nonterminals, productions, symbols, start_of, sizes_ok, lefts_ok, rights_ok, form_fault, grammar_of}
 use Rattle.grammar.specs.Useful.{Useful, Nonterminal, LowestUseless}
+use Rattle.std.specs.Result.{IsErrAnd}
+use Rattle.card.specs.Fault.{fault_number}
+use Rattle.card.specs.declared.Fault.{Fault}
+use Rattle.card.specs.declared.Fault.TheVariants.{Short, Sizes, Length, Left, Sum, Symbol}
 use Rattle.card_checks.specs.declared.Refusal.{Refusal}
 use Rattle.card_checks.specs.declared.Refusal.TheVariants.{CardShort, SizesWrong, LengthWrong, LeftWrong, SumWrong, SymbolWrong, Useless}
-use Rattle.card_checks.specs.declared.Verdict.{Verdict}
-use Rattle.card_checks.specs.declared.Verdict.TheVariants.{Passed, Refused}
+use Rattle.std.proofs.Common.{Result, Ok, Err}
 use Rattle.card_checks.specs.Checked.{refusal_numbers, verdict_numbers, Checked, malformed, useless, passed}
 
 -- ---- the numbers of refusals
 
--- a refusal told by its case
-pub told : {e d : Refusal} → e ≡ d → covered 2 (refusal_numbers d) [] ≡ covered 2 (refusal_numbers e) []
-told h = rw h refl
+-- the refusal of a fault
+abbrev pub refusal_of : Fault → Refusal
+refusal_of Short = CardShort
+refusal_of Sizes = SizesWrong
+refusal_of Length = LengthWrong
+refusal_of Left = LeftWrong
+refusal_of Sum = SumWrong
+refusal_of Symbol = SymbolWrong
 
--- a fault of the form is 0 or one of 4 to 9
-pub data Fault : ℕ → Type 0 where
-  none : Fault 0
-  some : {n : ℕ} (e : Refusal) → refusal_numbers e ≡ n ∷ [] → 4 ≤ n → n ≤ 9 → Fault n
+pub same_number : (f : Fault) → refusal_numbers (refusal_of f) ≡ fault_number (Err f) ∷ []
+same_number Short = refl
+same_number Sizes = refl
+same_number Length = refl
+same_number Left = refl
+same_number Sum = refl
+same_number Symbol = refl
 
-unless_fault : (b : Bool) (n : ℕ) {m : ℕ} → Fault n → Fault m → Fault (unless b n m)
-unless_fault true n f g = g
-unless_fault false n f g = f
+pub fault_some : (f : Fault) → 0 < fault_number (Err f)
+fault_some Short = omega arith
+fault_some Sizes = omega arith
+fault_some Length = omega arith
+fault_some Left = omega arith
+fault_some Sum = omega arith
+fault_some Symbol = omega arith
 
-pub fault_is : (c : List ℕ) → Fault (form_fault c)
+-- the first fault of the form is none, or a fault's number
+pub data Numbered : ℕ → Type 0 where
+  none : Numbered 0
+  some : (f : Fault) → Numbered (fault_number (Err f))
+
+unless_fault : (b : Bool) (f : Fault) {m : ℕ} → Numbered m → Numbered (unless b (fault_number (Err f)) m)
+unless_fault true f g = g
+unless_fault false f g = some f
+
+pub fault_is : (c : List ℕ) → Numbered (form_fault c)
 unfolding form_fault
 fault_is c =
-    unless_fault (leb 4 (length c)) 4 (some CardShort refl (omega arith) (omega arith))
-    (unless_fault (sizes_ok c) 5 (some SizesWrong refl (omega arith) (omega arith))
-    (unless_fault (eqb (length c) (4 + 2 * productions c + symbols c)) 6 (some LengthWrong refl (omega arith) (omega arith))
-    (unless_fault (lefts_ok c) 7 (some LeftWrong refl (omega arith) (omega arith))
-    (unless_fault (eqb (start_of c (productions c)) (symbols c)) 8 (some SumWrong refl (omega arith) (omega arith))
-    (unless_fault (rights_ok c) 9 (some SymbolWrong refl (omega arith) (omega arith)) none)))))
-
-pub fault_from : (c : List ℕ) (n : ℕ) → n ≡ form_fault c → n ≢ 0 → (4 ≤ n) × (n ≤ 9)
-fault_from c n e h = go (fault_is c) e
-  where
-    go : {m : ℕ} → Fault m → n ≡ m → (4 ≤ n) × (n ≤ 9)
-    go none k = absurd (h k)
-    go (some r s a b) k = rw k (a, b)
+    unless_fault (leb 4 (length c)) Short
+    (unless_fault (sizes_ok c) Sizes
+    (unless_fault (eqb (length c) (4 + 2 * productions c + symbols c)) Length
+    (unless_fault (lefts_ok c) Left
+    (unless_fault (eqb (start_of c (productions c)) (symbols c)) Sum
+    (unless_fault (rights_ok c) Symbol none)))))
 
 -- ---- from what the tests found to the verdict
 
 module _ (c : List ℕ) where
-  pub first_fault : (n : ℕ) {ns : List ℕ} → n ≡ form_fault c → n ≢ 0 → ns ≡ n ∷ [] → Checked c ns
-  first_fault n e h k = rw (k, e) (malformed (rw e at h))
+  pub first_fault : (f : Fault) (r : Result (Unit {0}) Refusal) → fault_number (Err f) ≡ form_fault c → IsErrAnd r (λ e. refusal_numbers e ≡ fault_number (Err f) ∷ []) → Checked c (verdict_numbers r)
+  first_fault f (Ok u) e k = absurd k
+  first_fault f (Err d) e k = rw (k, e) (malformed (λ z. omega (arith, fault_some f)))
 
-  pub lowest_useless : (x : ℕ) → form_fault c ≡ 0 → LowestUseless (grammar_of c) x → x < terminals c + nonterminals c → Checked c (10 ∷ x ∷ [])
-  lowest_useless x f l h = useless f (record { from = l.from; below = h }) l
-
-  pub none_useless : (x : ℕ) → form_fault c ≡ 0 → LowestUseless (grammar_of c) x → terminals c + nonterminals c ≤ x → Checked c (0 ∷ [])
-  none_useless x f l h = passed f (λ y n. l.before y n.from (omega (arith, n.below, h)))
+  pub none_useless : form_fault c ≡ 0 → LowestUseless (grammar_of c) (terminals c + nonterminals c) → Checked c (0 ∷ [])
+  none_useless f l = passed f (λ y n. l.before y n.from n.below)
 
 -- ---- one verdict
 
@@ -92,26 +105,26 @@ module _ (c : List ℕ) where
 abbrev form_of : ℕ → Refusal
 form_of n = cond (eqb n 4) CardShort (cond (eqb n 5) SizesWrong (cond (eqb n 6) LengthWrong (cond (eqb n 7) LeftWrong (cond (eqb n 8) SumWrong SymbolWrong))))
 
-abbrev verdict_of : List ℕ → Verdict
-verdict_of [] = Passed
-verdict_of (n ∷ []) = cond (eqb n 0) Passed (Refused (form_of n))
-verdict_of (n ∷ x ∷ ns) = Refused (Useless x)
+abbrev verdict_of : List ℕ → Result (Unit {0}) Refusal
+verdict_of [] = Ok tt
+verdict_of (n ∷ []) = cond (eqb n 0) (Ok tt) (Err (form_of n))
+verdict_of (n ∷ x ∷ ns) = Err (Useless x)
 
-numbers_tell : (r : Verdict) → verdict_of (verdict_numbers r) ≡ r
-numbers_tell Passed = refl
-numbers_tell (Refused CardShort) = refl
-numbers_tell (Refused SizesWrong) = refl
-numbers_tell (Refused LengthWrong) = refl
-numbers_tell (Refused LeftWrong) = refl
-numbers_tell (Refused SumWrong) = refl
-numbers_tell (Refused SymbolWrong) = refl
-numbers_tell (Refused (Useless x)) = refl
+numbers_tell : (r : Result (Unit {0}) Refusal) → verdict_of (verdict_numbers r) ≡ r
+numbers_tell (Ok u) = refl
+numbers_tell (Err CardShort) = refl
+numbers_tell (Err SizesWrong) = refl
+numbers_tell (Err LengthWrong) = refl
+numbers_tell (Err LeftWrong) = refl
+numbers_tell (Err SumWrong) = refl
+numbers_tell (Err SymbolWrong) = refl
+numbers_tell (Err (Useless x)) = refl
 
-told_apart : (r s : Verdict) → verdict_numbers r ≡ verdict_numbers s → r ≡ s
+told_apart : (r s : Result (Unit {0}) Refusal) → verdict_numbers r ≡ verdict_numbers s → r ≡ s
 told_apart r s e = sym (numbers_tell r) ∙ ap verdict_of e ∙ numbers_tell s
 
 -- a card has not two verdicts
-pub one_verdict : (c : List ℕ) (r s : Verdict) → Checked c (verdict_numbers r) → Checked c (verdict_numbers s) → r ≡ s
+pub one_verdict : (c : List ℕ) (r s : Result (Unit {0}) Refusal) → Checked c (verdict_numbers r) → Checked c (verdict_numbers s) → r ≡ s
 one_verdict c r s h k = told_apart r s (same_numbers c h k)
 
 -- a refusal is not told as a card that passed

@@ -1,11 +1,9 @@
 -- What the checks 4 to 10 say of a card, by the paper's numbers and values.
-use Rattle.std.specs.Prelude.{ℕ, ◌≡◌, ◌≢◌, List, [], ◌∷◌}
+use Rattle.std.specs.Prelude.{ℕ, ◌≡◌, ◌≢◌, List, [], ◌∷◌, Result, Ok, Err}
 use Rattle.grammar.specs.Card.{form_fault, grammar_of}
 use Rattle.grammar.specs.Useful.{Useful, Nonterminal, LowestUseless}
 use Rattle.card_checks.specs.declared.Refusal.{Refusal}
 use Rattle.card_checks.specs.declared.Refusal.TheVariants.{CardShort, SizesWrong, LengthWrong, LeftWrong, SumWrong, SymbolWrong, Useless}
-use Rattle.card_checks.specs.declared.Verdict.{Verdict}
-use Rattle.card_checks.specs.declared.Verdict.TheVariants.{Passed, Refused}
 
 -- "4: card under 4 numbers. 5: a size outside its limits. 6: card length other than 4 + 2 × P + L. 7: a left side that is no name.
 -- 8: lengths that do not add up to L. 9: a right-side symbol that is 0 or at least T+N. 10, with the lowest such name: .."
@@ -19,9 +17,9 @@ refusal_numbers SymbolWrong = 9 ∷ []
 refusal_numbers (Useless x) = 10 ∷ x ∷ []
 
 -- 0 where none applies
-abbrev pub verdict_numbers : Verdict → List ℕ
-verdict_numbers Passed = 0 ∷ []
-verdict_numbers (Refused e) = refusal_numbers e
+abbrev pub verdict_numbers : Result (Unit {0}) Refusal → List ℕ
+verdict_numbers (Ok u) = 0 ∷ []
+verdict_numbers (Err e) = refusal_numbers e
 
 -- the verdict on a card, for any numbers and any length; each card has one (`one_verdict` of proofs/Verdicts.antt)
 pub data Checked (c : List ℕ) : List ℕ → Type 0 where

@@ -1,9 +1,12 @@
 // The checks of a card, 4 to 10, in the paper's order.
 #![tactic(auto)]
 
-ghost use Rattle.std.specs.Prelude.{◌≡◌, [], ◌∷◌, ◌≤◌};
+ghost use Rattle.std.specs.Prelude.{◌≡◌, Err, [], ◌∷◌};
 ghost use Rattle.sets.specs.Lists.{covered};
+ghost use Rattle.card.specs.Fault.{fault_number};
 ghost use Rattle.card_checks.specs.Checked.{refusal_numbers, verdict_numbers, Checked};
+
+use card::Fault;
 
 #[derive(Clone, Copy)]
 pub enum Refusal {
@@ -17,13 +20,8 @@ pub enum Refusal {
     Useless(u16),
 }
 
-#[derive(Clone, Copy)]
-pub enum Verdict {
-    Passed,
-    Refused(Refusal),
-}
-
 // The paper's number and value of a refusal; 0 where there is no value.
+#[tactic(auto, unfolding(sets::specs::Lists::covered))]
 pub fn numbers(e: Refusal) -> [u16; 2]
     ensures { result ≡ covered 2 (refusal_numbers e) [] }
 {
@@ -38,32 +36,28 @@ pub fn numbers(e: Refusal) -> [u16; 2]
     }
 }
 
-// The refusal of a number from 4 to 9.
-fn form_refusal(n: u16) -> Refusal
-    requires { (4 ≤ n) × (n ≤ 9) }
-    ensures { refusal_numbers result ≡ n ∷ [] }
-{
-    match n {
-        4 => Refusal::CardShort,
-        5 => Refusal::SizesWrong,
-        6 => Refusal::LengthWrong,
-        7 => Refusal::LeftWrong,
-        8 => Refusal::SumWrong,
-        _ => Refusal::SymbolWrong,
+impl From<Fault> for Refusal {
+    ghost from_gives = { λ f e. refusal_numbers e ≡ fault_number (Err f) ∷ [] };
+
+    fn from(f: Fault) -> Refusal {
+        match f {
+            Fault::Short => Refusal::CardShort,
+            Fault::Sizes => Refusal::SizesWrong,
+            Fault::Length => Refusal::LengthWrong,
+            Fault::Left => Refusal::LeftWrong,
+            Fault::Sum => Refusal::SumWrong,
+            Fault::Symbol => Refusal::SymbolWrong,
+        }
     }
 }
 
 // What 4 to 10 say of a card.
-pub fn check(c: &[u16]) -> Verdict
+pub fn check(c: &[u16]) -> Result<(), Refusal>
     ensures { Checked c.now (verdict_numbers result) }
 {
-    let fault = card::form_fault(c);
-    if fault != 0 {
-        return Verdict::Refused(form_refusal(fault));
+    card::form_fault(c)?;
+    match nonterminals::useless(c) {
+        Some(x) => Err(Refusal::Useless(x)),
+        None => Ok(()),
     }
-    let x = nonterminals::useless(c);
-    if x < card::terminals(c) + card::nonterminals(c) {
-        return Verdict::Refused(Refusal::Useless(x));
-    }
-    Verdict::Passed
 }

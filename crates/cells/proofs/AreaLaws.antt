@@ -1,16 +1,10 @@
 -- Zeros behind what stands in front, at any width of number; rows moved up; the header; and a table area as one list.
-use Prim.Native.Nat.{ℕ, suc, ◌+◌, ◌-◌, ◌≤◌, ◌<◌}
-use mathlib.Core.Path.{◌≡◌, refl, sym, ap, ◌∙◌, subst}
-use mathlib.Core.Logic.{◌⊎◌, inl, inr, ⊎_elim}
-use mathlib.Core.List.{List, [], ◌∷◌, ◌++◌, append_assoc}
+use Prim.Native.Nat.{ℕ, ◌+◌, ◌-◌, ◌≤◌, ◌<◌}
+use mathlib.Core.Path.{◌≡◌, refl, sym, ap, ◌∙◌}
+use mathlib.Core.List.{List, [], ◌++◌}
 use native.Mathlib.Omega.{arith}
-use native.Mathlib.Decide.{ℕ_discrete}
-use native.Mathlib.Nat.{le_refl}
-use native.Mathlib.Numerals.{add-one}
-use lib.ListN.{length, get_or, set, take, drop, replicate, length-append, length-drop, length-replicate, length-set, take-append-drop, replicate-append-replicate}
-use lib.Seq.{length-take-le, drop-cons, set_at, get_or-take, get_or-drop, get_or-set_same, get_or-set_other, ext_get_or}
-use Rattle.sets.proofs.HasLaws.{lt_or_ge}
-use Rattle.sets.proofs.CoveredLaws.{covered_length}
+use lib.ListN.{length, get_or, set, take, drop, replicate, length-drop, length-set}
+use lib.Seq.{length-take-le, get_or-take, get_or-drop, get_or-set_same, get_or-set_other, ext_get_or}
 use Rattle.grammar.specs.Card as card
 use Rattle.tables.specs.Layout.{states, terminals, nonterminals, productions, width, left_at, length_at, header_size, entered_at, row_at, left_of, length_of, entered_of, cell_of, size_of, build}
 use Rattle.areas.specs.Areas.{table_size, row_of}
@@ -18,57 +12,22 @@ use Rattle.areas.proofs.RowLaws.{row_table, row_header, row_mono}
 use Rattle.tables.proofs.LayoutLaws.{one_list, built_sizes, built_left, built_length, built_entered, built_cell, built_long}
 use Rattle.cells.specs.Actions.{IsCell}
 use Rattle.sets.specs.Lists.{covered}
-use Rattle.cells.specs.Areas.{table_area, Raised, Copied, Inserted, Arrays, Header, Tabled}
+use Rattle.cells.specs.Areas.{table_area, Inserted, Arrays, Header, Tabled}
+use Rattle.std.specs.List.{CopiedTo, SameFrom}
+use Rattle.std.proofs.lemmas.Grind.{common_steps}
+use Rattle.std.proofs.lemmas.List.{places}
+use borrow.Rule.Slice.PartMut.{mid_of, put_mid}
 
 -- ---- zeros
 
--- nothing but the front so far
-pub covered_none : (a : ℕ) (t : List ℕ) → a ≤ length t → t ≡ covered a (take a t) t
+-- what `t[..n].fill(0)` leaves, and `t[a..k].fill(0)`
+pub covered_filled : (n : ℕ) (t u : List ℕ) → n ≤ length t → u ≡ replicate (length (take n t)) 0 → u ++ drop n t ≡ covered n [] t
 unfolding covered
-covered_none a t h =
-    let e : a - length (take a t) ≡ 0 = omega (arith, length-take-le a t h) in
-    rw e (sym (take-append-drop a t))
+covered_filled n t u h e = let z : n - 0 ≡ n = omega arith in rw (e, length-take-le n t h, z) refl
 
--- one zero more
-pub covered_more : (i : ℕ) (l t : List ℕ) → length l ≤ i → i < length t → set (covered i l t) i 0 ≡ covered (i + 1) l t
+pub covered_behind : (a k : ℕ) (t u : List ℕ) → a ≤ k → k ≤ length t → u ≡ replicate (length (mid_of a (k - a) t)) 0 → put_mid a (k - a) t u ≡ covered k (take a t) t
 unfolding covered
-covered_more i l t h k =
-    let j = i - length l in
-    let z : List ℕ = replicate j 0 in
-    let e : i + 1 - length l ≡ i - length l + 1 = omega arith in
-    let len : length (l ++ replicate {A = ℕ} (i - length l) 0) ≡ i =
-    omega (arith, length-append l (replicate {A = ℕ} (i - length l) 0), length-replicate {A = ℕ} (i - length l) 0)
-    in
-    ap (λ (x : List ℕ). set x i 0) (sym (append_assoc l z (drop i t)) ∙ ap (λ (x : List ℕ). (l ++ z) ++ x) (drop-cons t i 0 k))
-    ∙ set_at (l ++ z) (get_or t i 0) (drop (suc i) t) 0 i len
-    ∙ append_assoc l z (0 ∷ drop (suc i) t)
-    ∙ ap (λ (x : List ℕ). l ++ x) (sym (append_assoc z (0 ∷ []) (drop (suc i) t)) ∙ rw (e, add-one i, ← replicate-append-replicate {A = ℕ} j 1 0) refl)
-
--- the loop that zeros the places from a to k, at place i: one law for numbers of any width
-pub record Clearing (a k : ℕ) (t₀ : List ℕ) (i : ℕ) (t : List ℕ) : Type 0 where
-  pub from : a ≤ i
-  pub to : i ≤ k
-  pub area : t ≡ covered i (take a t₀) t₀
-
-module _ (a k : ℕ) (t₀ : List ℕ) (room : k ≤ length t₀) where
-  pub clearing_none : a ≤ k → Clearing a k t₀ a t₀
-  clearing_none h = record { from = omega arith; to = h; area = covered_none a t₀ (omega arith) }
-
-  front_short : (i : ℕ) → a ≤ i → i ≤ k → length (take a t₀) ≤ i
-  front_short i h g = let e = length-take-le a t₀ (omega arith) in omega arith
-
-  pub clearing_long : {i : ℕ} {t : List ℕ} → Clearing a k t₀ i t → length t ≡ length t₀
-  clearing_long {i} {t} w = ap length w.area ∙ covered_length i (take a t₀) t₀ (front_short i w.from w.to) (omega (arith, w.to))
-
-  pub clearing_more : {i : ℕ} {t : List ℕ} → i < k → Clearing a k t₀ i t → Clearing a k t₀ (i + 1) (set t i 0)
-  clearing_more {i} {t} h w = record {
-    from = omega (arith, w.from);
-    to = omega arith;
-    area = ap (λ (x : List ℕ). set x i 0) w.area ∙ covered_more i (take a t₀) t₀ (front_short i w.from w.to) (omega arith);
-  }
-
-  pub clearing_end : {i : ℕ} {t : List ℕ} → k ≤ i → Clearing a k t₀ i t → t ≡ covered k (take a t₀) t₀
-  clearing_end {i} {t} h w = let e : i ≡ k = omega (arith, w.to) in w.area ∙ ap (λ (x : ℕ). covered x (take a t₀) t₀) e
+covered_behind a k t u h room e = grind (arith, common_steps)
 
 -- the places from k on are the same
 pub same_behind : (k : ℕ) (t t' : List ℕ) → length t' ≡ length t → ((i : ℕ) → k ≤ i → get_or t' i 0 ≡ get_or t i 0) → drop k t' ≡ drop k t
@@ -81,93 +40,42 @@ covered_same k l t t' e h = rw (same_behind k t t' e h)
 
 -- ---- rows moved up, and numbers written in front of them
 
-module _ (b k : ℕ) (t : List ℕ) where
-  pub raised_none : Raised b b k t t
-  raised_none = record { long = refl; moved = λ i h l. absurd (omega arith); below = λ i h. refl; behind = λ i h. refl }
-
-  -- one number more, at i
-  raised_more : (i : ℕ) (t' : List ℕ) → i < b → b + k ≤ length t → Raised (i + 1) b k t t' → Raised i b k t (set t' (i + k) (get_or t' i 0))
-  raised_more i t' h room r = record {
-    long = length-set t' (i + k) (get_or t' i 0) ∙ r.long;
-    moved = λ j g l. ⊎_elim
-        (λ (e : j ≡ i). rw e (get_or-set_same t' (i + k) (get_or t' i 0) 0 (omega (arith, r.long)) ∙ r.below i (omega arith)))
-        (λ (n : j ≡ i → ⊥). get_or-set_other t' (i + k) (j + k) (get_or t' i 0) 0 (λ z. n (omega arith)) ∙ r.moved j (omega (arith, n)) l)
-        (same_or j i);
-    below = λ j g. get_or-set_other t' (i + k) j (get_or t' i 0) 0 (λ z. omega arith) ∙ r.below j (omega arith);
-    behind = λ j g. get_or-set_other t' (i + k) j (get_or t' i 0) 0 (λ z. omega arith) ∙ r.behind j g;
-  }
-    where
-      same_or : (j i : ℕ) → (j ≡ i) ⊎ (j ≡ i → ⊥)
-      same_or j i = elim (ℕ_discrete j i) [ yes e ↦ inl e | no n ↦ inr n ]
-
-  pub raised_down : (i : ℕ) (t' : List ℕ) → 0 < i → i ≤ b → b + k ≤ length t → Raised i b k t t' → Raised (i - 1) b k t (set t' (i - 1 + k) (get_or t' (i - 1) 0))
-  raised_down i t' h l room r = let e : i ≡ i - 1 + 1 = omega arith in raised_more (i - 1) t' (omega arith) room (subst (λ (x : ℕ). Raised x b k t t') e r)
-
-  pub raised_end : (a i : ℕ) (t' : List ℕ) → a ≤ i → i ≤ a → Raised i b k t t' → Raised a b k t t'
-  raised_end a i t' h l r = let e : i ≡ a = omega arith in subst (λ (x : ℕ). Raised x b k t t') e r
-
-module _ (a : ℕ) (e t : List ℕ) where
-  pub copied_none : Copied a 0 e t t
-  copied_none = record { long = refl; here = λ q h. absurd (omega arith); below = λ i h. refl; behind = λ i h. refl }
-
-  pub copied_more : (q : ℕ) (t' : List ℕ) → a + q < length t → Copied a q e t t' → Copied a (q + 1) e t (set t' (a + q) (get_or e q 0))
-  copied_more q t' room r = record {
-    long = length-set t' (a + q) (get_or e q 0) ∙ r.long;
-    here = λ j h. ⊎_elim
-        (λ (l : j < q). get_or-set_other t' (a + q) (a + j) (get_or e q 0) 0 (λ z. omega arith) ∙ r.here j l)
-        (λ (l : q ≤ j). let z : j ≡ q = omega arith in rw z (get_or-set_same t' (a + q) (get_or e q 0) 0 (omega (arith, r.long))))
-        (lt_or_ge j q);
-    below = λ j h. get_or-set_other t' (a + q) j (get_or e q 0) 0 (λ z. omega arith) ∙ r.below j h;
-    behind = λ j h. get_or-set_other t' (a + q) j (get_or e q 0) 0 (λ z. omega arith) ∙ r.behind j (omega arith);
-  }
-
-  pub copied_end : (q n : ℕ) (t' : List ℕ) → q ≤ n → n ≤ q → Copied a q e t t' → Copied a n e t t'
-  copied_end q n t' h l r = let z : q ≡ n = omega arith in subst (λ (x : ℕ). Copied a x e t t') z r
-
--- both: the rows of n states and their entering symbols
-pub inserted : (c : List ℕ) (n a b : ℕ) (e t t₁ t₂ : List ℕ) → a ≡ row_of c 0 → b ≡ row_of c n → Raised a b n t t₁ → Copied a n e t₁ t₂ → Inserted c n e t t₂
+pub row_first : (c : List ℕ) → row_of c 0 ≡ header_size (card.productions c)
 unfolding row_of
-inserted c n a b e t t₁ t₂ ea eb r p = record {
-  long = p.long ∙ r.long;
-  entries = λ q h. ap (λ (i : ℕ). get_or t₂ i 0) (omega arith) ∙ p.here q h;
-  moved = λ i h l. p.behind (i + n) (omega arith) ∙ r.moved i (omega arith) (omega arith);
-  behind = λ i h. p.behind i (omega arith) ∙ r.behind i (omega arith);
-}
+row_first c = omega arith
+
+-- what `t.copy_within(a..b, a + n)` leaves is t₁; what `t[a..a + n].copy_from_slice(&e[..n])` leaves of that holds u there
+module _ (c : List ℕ) (n a b : ℕ) (e t t₁ u : List ℕ) (ea : a ≡ row_of c 0) (eb : b ≡ row_of c n) (room : b + n ≤ length t) (few : n ≤ length e)
+    (long : length t₁ ≡ length t) (moved : CopiedTo t t₁ a (a + n) (b - a)) (behind : SameFrom t t₁ (a + n + (b - a))) (written : u ≡ take n e) where
+  abbrev after : List ℕ
+  after = put_mid a (a + n - a) t₁ u
+
+  start : a ≡ header_size (card.productions c)
+  start = ea ∙ row_first c
+
+  order : a ≤ b
+  order = omega (arith, start, row_header c n)
+
+  u_long : length u ≡ n
+  u_long = rw written (length-take-le n e few)
+
+  in_part : (q : ℕ) → q < n → get_or after (a + q) 0 ≡ get_or u q 0
+  in_part q h = let o = order in let l = u_long in grind (arith, places)
+
+  past_part : (i : ℕ) → a + n ≤ i → get_or after i 0 ≡ get_or t₁ i 0
+  past_part i h = let o = order in let l = u_long in grind (arith, places)
+
+  pub inserted : Inserted c n e t after
+  inserted = let o = order in let l = u_long in let f = start in record {
+    long = grind (arith, places);
+    entries = λ q h. let p : entered_at (card.productions c) q ≡ a + q = omega arith in rw (p, in_part q h, written) (get_or-take n e q 0 h);
+    moved = λ i h k. let p : a + (i + n - (a + n)) ≡ i = omega arith in past_part (i + n) (omega arith) ∙ moved (i + n) 0 (omega arith) (omega arith) ∙ ap (λ (j : ℕ). get_or t j 0) p;
+    behind = λ i h. past_part i (omega arith) ∙ behind i 0 (omega arith);
+  }
 
 -- ---- the header
 
 module _ (c : List ℕ) (t : List ℕ) where
-  pub arrays_none : Arrays c 0 t t
-  arrays_none = record { long = refl; lefts = λ r h. absurd (omega arith); lengths = λ r h. absurd (omega arith); before = λ i h. refl; behind = λ i h. refl }
-
-  pub arrays_more : (r i j x y : ℕ) (t' : List ℕ) → r < card.productions c → header_size (card.productions c) ≤ length t → i ≡ left_at r → j ≡ length_at (card.productions c) r → x ≡ card.left_of c r → y ≡ card.length_of c r
-      → Arrays c r t t' → Arrays c (r + 1) t (set (set t' i x) j y)
-  arrays_more r i j x y t' h room ei ej ex ey a = record {
-    long = length-set (set t' i x) j y ∙ length-set t' i x ∙ a.long;
-    lefts = λ k g. ⊎_elim
-        (λ (l : k < r). other (left_at k) (omega arith) (omega arith) ∙ a.lefts k l)
-        (λ (l : r ≤ k).
-        let e : k ≡ r = omega arith in
-        let f : left_at k ≡ i = omega arith in
-        rw f (get_or-set_other (set t' i x) j i y 0 (λ e. omega arith) ∙ get_or-set_same t' i x 0 (omega (arith, a.long)) ∙ ex ∙ ap (card.left_of c) (sym e)))
-        (lt_or_ge k r);
-    lengths = λ k g. ⊎_elim
-        (λ (l : k < r). other (length_at (card.productions c) k) (omega arith) (omega arith) ∙ a.lengths k l)
-        (λ (l : r ≤ k).
-        let e : k ≡ r = omega arith in
-        let f : length_at (card.productions c) k ≡ j = omega arith in
-        rw f (get_or-set_same (set t' i x) j y 0 (rw (length-set t' i x) (omega (arith, a.long))) ∙ ey ∙ ap (card.length_of c) (sym e)))
-        (lt_or_ge k r);
-    before = λ k g. other k (omega arith) (omega arith) ∙ a.before k g;
-    behind = λ k g. other k (omega arith) (omega arith) ∙ a.behind k g;
-  }
-    where
-      other : (k : ℕ) → (k ≡ i → ⊥) → (k ≡ j → ⊥) → get_or (set (set t' i x) j y) k 0 ≡ get_or t' k 0
-      other k ni nj = get_or-set_other (set t' i x) j k y 0 nj ∙ get_or-set_other t' i k x 0 ni
-
-  pub arrays_end : (r p : ℕ) (t' : List ℕ) → r ≡ p → Arrays c r t t' → Arrays c p t t'
-  arrays_end r p t' e a = subst (λ (x : ℕ). Arrays c x t t') e a
-
   pub headed : (n x y p : ℕ) (t' : List ℕ) → x ≡ card.terminals c → y ≡ card.nonterminals c → p ≡ card.productions c → header_size (card.productions c) ≤ length t
       → Arrays c (card.productions c) (set (set (set (set t 0 n) 1 x) 2 y) 3 p) t' → Header c n t t'
   unfolding states terminals nonterminals productions left_of length_of
@@ -198,9 +106,6 @@ module _ (c : List ℕ) (t : List ℕ) where
           ∙ get_or-set_other (set t 0 n) 1 0 x 0 (λ e. omega arith) ∙ get_or-set_same t 0 n 0 (omega arith)
 
 -- ---- the table area
-
-pub row_le : (c : List ℕ) (p q : ℕ) → p ≤ q → row_of c p ≤ row_of c q
-row_le c p q h = ⊎_elim (λ (l : p < q). let m = row_mono c p q l in omega arith) (λ (l : q ≤ p). let e : p ≡ q = omega arith in rw e (le_refl (row_of c q))) (lt_or_ge p q)
 
 module _ (c : List ℕ) (n : ℕ) (e t₀ t₁ t₂ : List ℕ) (wide : 0 < card.terminals c) (room : row_of c n + n ≤ length t₀) (p : Inserted c n e t₀ t₁) (h : Header c n t₁ t₂) where
   -- what stands in front, by the places of the cells

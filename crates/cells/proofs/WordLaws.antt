@@ -4,6 +4,7 @@ use mathlib.Core.Path.{◌≡◌, refl, sym, ap, ◌∙◌, subst}
 use mathlib.Core.Bool.{Bool, true, false, ◌&&◌, true≢false}
 use mathlib.Core.Logic.{◌↔◌, ◌≢◌, ◌⊎◌, inl, inr, ⊎_elim}
 use mathlib.Core.List.{List}
+use Rattle.std.specs.Prelude.{Option, Some, None, MatchOption}
 use native.Mathlib.Omega.{arith}
 use native.Mathlib.Nat.{lt_of_le_of_lt}
 use lib.ListN.{length, get_or, set, length-set}
@@ -16,7 +17,10 @@ use Rattle.sets.proofs.BitLaws.{bit_of_and, bit_zero, lowest_in, lowest_lt}
 use Rattle.sets.proofs.HasLaws.{lt_or_ge, below_suc, has_or, or_has_l, or_has_r, has_none, cleared, clear_cases}
 use Rattle.tables.specs.Conflicts.{Single, Lowest}
 use Rattle.cells.specs.Actions.{IsCell}
-use Rattle.cells.specs.Words.{Numbers, Live, Next, Two, Sought, found, missing, Put, Written, kept, reduced, accepted, Row}
+use Rattle.items.specs.Item.{item}
+use Rattle.sets.specs.Words as Words
+use Rattle.sets.specs.Words.{First}
+use Rattle.cells.specs.Words.{Numbers, Live, Two, Sought, number_of, Put, Written, kept, reduced, accepted, Row}
 
 -- ---- below r + 1, and tests
 
@@ -36,34 +40,34 @@ has_and a b m h k = bit_of_and a b m ∙ both h k
 -- ---- where two meet
 
 -- some number has A
-pub record Some (A : ℕ → Type 0) : Type 0 where
+pub record AnyNumber (A : ℕ → Type 0) : Type 0 where
   pub number : ℕ
   pub here : A number
 
 -- `seen` has m where some number has A, `twice` where two have
 pub record Counted (A : ℕ → Type 0) (seen twice m : ℕ) : Type 0 where
-  pub some : (bit seen m ≡ true) ↔ Some A
+  pub some : (bit seen m ≡ true) ↔ AnyNumber A
   pub two : (bit twice m ≡ true) ↔ Two A
 
 -- one number more, k, which the word v has at m; all before it are lower
 module _ (A B : ℕ → Type 0) (k v m : ℕ) (old : (u : ℕ) → A u → B u) (new : bit v m ≡ true → B k)
     (cases : (u : ℕ) → B u → A u ⊎ ((u ≡ k) × (bit v m ≡ true))) (below : (u : ℕ) → A u → u < k) where
-  some_of : Some A → Some B
+  some_of : AnyNumber A → AnyNumber B
   some_of s = record { number = s.number; here = old s.number s.here }
 
   two_of : Two A → Two B
   two_of t = record { lower = t.lower; upper = t.upper; first = old t.lower t.first; second = old t.upper t.second; order = t.order }
 
-  two_new : Some A → bit v m ≡ true → Two B
+  two_new : AnyNumber A → bit v m ≡ true → Two B
   two_new s h = record { lower = s.number; upper = k; first = old s.number s.here; second = new h; order = below s.number s.here }
 
-  some_back : Some B → Some A ⊎ (bit v m ≡ true)
+  some_back : AnyNumber B → AnyNumber A ⊎ (bit v m ≡ true)
   some_back s = ⊎_elim (λ a. inl (record { number = s.number; here = a })) (λ e. inr e.1) (cases s.number s.here)
 
-  two_back : Two B → Two A ⊎ (Some A × (bit v m ≡ true))
+  two_back : Two B → Two A ⊎ (AnyNumber A × (bit v m ≡ true))
   two_back t = go (cases t.lower t.first) (cases t.upper t.second)
     where
-      go : A t.lower ⊎ ((t.lower ≡ k) × (bit v m ≡ true)) → A t.upper ⊎ ((t.upper ≡ k) × (bit v m ≡ true)) → Two A ⊎ (Some A × (bit v m ≡ true))
+      go : A t.lower ⊎ ((t.lower ≡ k) × (bit v m ≡ true)) → A t.upper ⊎ ((t.upper ≡ k) × (bit v m ≡ true)) → Two A ⊎ (AnyNumber A × (bit v m ≡ true))
       go (inl a) (inl b) = inl (record { lower = t.lower; upper = t.upper; first = a; second = b; order = t.order })
       go (inl a) (inr b) = inr (record { number = t.lower; here = a }, b.1)
       go (inr a) (inl b) = absurd (omega (arith, below t.upper b, t.order, a.0))
@@ -96,11 +100,17 @@ module _ (A B : ℕ → Type 0) (to : (u : ℕ) → A u → B u) (from : (u : �
 abbrev pub Quiet : List ℕ → ℕ → ℕ → Type 0
 Quiet words a b = (i : ℕ) → a ≤ i → i < b → get_or words i 0 ≡ 0
 
-pub quiet_next : (p : ℕ) (words live : List ℕ) (start r : ℕ) → Live p words live → Next live start r → Quiet words start r
-quiet_next p words live start r l n i h k = l.none i (n.gap i h k)
+-- as `items` says it
+in_set : (live : List ℕ) (i : ℕ) → item live i ≡ Words.item live i
+unfolding item
+in_set live i = refl
 
-pub quiet_beyond : (p : ℕ) (words live : List ℕ) (r : ℕ) → Live p words live → Quiet words p r
-quiet_beyond p words live r l i h k = l.beyond i h
+-- up to the next in the set, and from where there is none on
+pub quiet_next : (p : ℕ) (words live : List ℕ) (start r : ℕ) → Live p words live → First live start r → Quiet words start r
+quiet_next p words live start r l n i h k = l.none i (in_set live i ∙ n.gap i h k)
+
+pub quiet_rest : (p : ℕ) (words live : List ℕ) (start : ℕ) → Live p words live → Words.Next live start None → (i : ℕ) → start ≤ i → get_or words i 0 ≡ 0
+quiet_rest p words live start l n i h = l.none i (in_set live i ∙ n i h)
 
 quiet_none : (words : List ℕ) (i m : ℕ) → get_or words i 0 ≡ 0 → bit (get_or words i 0) m ≡ true → ⊥
 quiet_none words i m e h = has_none m (subst (λ (x : ℕ). bit x m ≡ true) e h)
@@ -141,8 +151,13 @@ module _ (s : ℕ) (words : List ℕ) (m : ℕ) where
     pub counted_up : (seen twice : ℕ) → Counted (Numbers a s words 0 m) seen twice m → Counted (Numbers b s words 0 m) seen twice m
     counted_up seen twice c = counted_as (Numbers a s words 0 m) (Numbers b s words 0 m) (λ u x. numbers_up x) (λ u x. numbers_down x) seen twice m c
 
-    pub counted_down : (seen twice : ℕ) → Counted (Numbers b s words 0 m) seen twice m → Counted (Numbers a s words 0 m) seen twice m
+    counted_down : (seen twice : ℕ) → Counted (Numbers b s words 0 m) seen twice m → Counted (Numbers a s words 0 m) seen twice m
     counted_down seen twice c = counted_as (Numbers b s words 0 m) (Numbers a s words 0 m) (λ u x. numbers_down x) (λ u x. numbers_up x) seen twice m c
+
+  -- where neither a first productions nor b have others behind them
+  pub counted_all : (a b seen twice : ℕ) → ((i : ℕ) → a ≤ i → get_or words i 0 ≡ 0) → ((i : ℕ) → b ≤ i → get_or words i 0 ≡ 0) → Counted (Numbers a s words 0 m) seen twice m → Counted (Numbers b s words 0 m) seen twice m
+  counted_all a b seen twice qa qb c =
+      ⊎_elim (λ l. counted_up a b (omega arith) (λ i h k. qa i h) seen twice c) (λ g. counted_down b a g (λ i h k. qb i h) seen twice c) (lt_or_ge a b)
 
   old_one : (r : ℕ) {u : ℕ} → Numbers r s words 0 m u → Numbers (r + 1) s words 0 m u
   old_one r (Numbers.shifts h) = Numbers.shifts h
@@ -183,17 +198,9 @@ module _ (s : ℕ) (words : List ℕ) (m : ℕ) where
 
 -- ---- the two lowest
 
--- no production from `start` to r has m
-abbrev pub Gap : List ℕ → ℕ → ℕ → ℕ → Type 0
-Gap words m start r = (k : ℕ) → start ≤ k → k < r → bit (get_or words k 0) m ≡ true → ⊥
-
-pub gap_more : (words : List ℕ) (m start r : ℕ) (b : Bool) → b ≡ bit (get_or words r 0) m → b ≡ false → Gap words m start r → Gap words m start (r + 1)
-gap_more words m start r b e f gap k h l x =
-    ⊎_elim (λ g. gap k h g x) (λ (g : k ≡ r). true≢false (sym x ∙ ap (λ (i : ℕ). bit (get_or words i 0) m) g ∙ sym e ∙ f)) (below_suc l)
-
-pub sought_least : {p : ℕ} {words : List ℕ} {m start a : ℕ} → Sought p words m start a → 1024 ≤ a
-sought_least (found r b k h gap) = omega arith
-sought_least (missing gap) = omega arith
+sought_least : (p : ℕ) (words : List ℕ) (m start : ℕ) (a : Option ℕ) → Sought p words m start a → 1024 ≤ number_of a
+sought_least p words m start (Some r) y = omega arith
+sought_least p words m start None y = omega arith
 
 module _ (p s : ℕ) (words : List ℕ) (accept m : ℕ) (few : p ≤ 128) (small : s < 1024) where
   high : {v : ℕ} → Numbers p s words accept m v → v ≢ s → 1024 ≤ v
@@ -203,33 +210,33 @@ module _ (p s : ℕ) (words : List ℕ) (accept m : ℕ) (few : p ≤ 128) (smal
 
   -- what is found from `start` on is the lowest number from 1024 + start on, if there is one at all
   module _ (start : ℕ) where
-    sought_here : {a : ℕ} → Sought p words m start a → (u : ℕ) → Numbers p s words accept m u → 1024 + start ≤ u → Numbers p s words accept m a
-    sought_here (found r b k h gap) u x l = Numbers.reduces r k h
-    sought_here (missing gap) u x l = at x l
+    sought_here : (a : Option ℕ) → Sought p words m start a → (u : ℕ) → Numbers p s words accept m u → 1024 + start ≤ u → Numbers p s words accept m (number_of a)
+    sought_here (Some r) y u x l = Numbers.reduces r y.1 y.2
+    sought_here None gap u x l = at x l
       where
         at : {u : ℕ} → Numbers p s words accept m u → 1024 + start ≤ u → Numbers p s words accept m 4096
         at (Numbers.shifts h) l = absurd (omega arith)
         at (Numbers.reduces r b h) l = absurd (gap r (omega arith) b h)
         at (Numbers.accepts h) l = Numbers.accepts h
 
-    sought_most : {a : ℕ} → Sought p words m start a → {u : ℕ} → Numbers p s words accept m u → 1024 + start ≤ u → a ≤ u
-    sought_most y (Numbers.shifts h) l = absurd (omega arith)
-    sought_most (found r b k h gap) (Numbers.reduces q d g) l = ⊎_elim (λ e. absurd (gap q (omega arith) e g)) (λ e. omega arith) (lt_or_ge q r)
-    sought_most (missing gap) (Numbers.reduces q d g) l = absurd (gap q (omega arith) d g)
-    sought_most (found r b k h gap) (Numbers.accepts g) l = omega arith
-    sought_most (missing gap) (Numbers.accepts g) l = omega arith
+    sought_most : (a : Option ℕ) → Sought p words m start a → {u : ℕ} → Numbers p s words accept m u → 1024 + start ≤ u → number_of a ≤ u
+    sought_most a y (Numbers.shifts h) l = absurd (omega arith)
+    sought_most (Some r) y (Numbers.reduces q d g) l = ⊎_elim (λ e. absurd (y.3 q (omega arith) e g)) (λ e. omega arith) (lt_or_ge q r)
+    sought_most None gap (Numbers.reduces q d g) l = absurd (gap q (omega arith) d g)
+    sought_most (Some r) y (Numbers.accepts g) l = omega arith
+    sought_most None gap (Numbers.accepts g) l = omega arith
 
-    sought_from : {a : ℕ} → Sought p words m start a → (1024 + start ≤ a) ⊎ (a ≡ 4096)
-    sought_from (found r b k h gap) = inl (omega arith)
-    sought_from (missing gap) = inr refl
+    sought_from : (a : Option ℕ) → Sought p words m start a → (1024 + start ≤ number_of a) ⊎ (number_of a ≡ 4096)
+    sought_from (Some r) y = inl (omega arith)
+    sought_from None gap = inr refl
 
   -- m is shifted: the shift is the lower one
-  pub lowest_shift : (a : ℕ) → s ≢ 0 → Sought p words m 0 a → Two (Numbers p s words accept m) → Lowest (Numbers p s words accept m) s a
+  pub lowest_shift : (a : Option ℕ) → s ≢ 0 → Sought p words m 0 a → Two (Numbers p s words accept m) → Lowest (Numbers p s words accept m) s (number_of a)
   lowest_shift a some y t = record {
     first = Numbers.shifts some;
-    second = sought_here 0 y t.upper t.second (omega (arith, upper));
-    lower = omega (arith, sought_least y);
-    lowest = λ u x ne. sought_most 0 y x (omega (arith, high x ne));
+    second = sought_here 0 a y t.upper t.second (omega (arith, upper));
+    lower = omega (arith, sought_least p words m 0 a y);
+    lowest = λ u x ne. sought_most 0 a y x (omega (arith, high x ne));
   }
     where
       upper : 1024 ≤ t.upper
@@ -245,36 +252,40 @@ module _ (p s : ℕ) (words : List ℕ) (accept m : ℕ) (few : p ≤ 128) (smal
           go x (Numbers.reduces r b h) l = omega arith
           go x (Numbers.accepts h) l = omega arith
 
-  -- m is not shifted: the two lowest of the others
-  module _ (a b d : ℕ) (none : s ≡ 0) (y : Sought p words m 0 a) (same : d ≡ a) (z : Sought p words m (d - 1023) b) (t : Two (Numbers p s words accept m)) where
+  -- m is not shifted: the two lowest of the others, where the second is sought behind the first
+  pub sought_behind : (a b : Option ℕ) → MatchOption a (b ≡ None) (λ r. Sought p words m (r + 1) b) → Sought p words m (number_of a - 1023) b
+  sought_behind (Some r) b z = let e : r + 1 ≡ 1024 + r - 1023 = omega arith in subst (λ (x : ℕ). Sought p words m x b) e z
+  sought_behind None b e = rw e (λ k h l g. absurd (omega arith))
+
+  module _ (a b : Option ℕ) (none : s ≡ 0) (y : Sought p words m 0 a) (z : Sought p words m (number_of a - 1023) b) (t : Two (Numbers p s words accept m)) where
     big : {u : ℕ} → Numbers p s words accept m u → 1024 + 0 ≤ u
     big (Numbers.shifts h) = absurd (h none)
     big (Numbers.reduces r k h) = omega arith
     big (Numbers.accepts h) = omega arith
 
-    least : (u : ℕ) → Numbers p s words accept m u → a ≤ u
-    least u x = sought_most 0 y x (big x)
+    least : (u : ℕ) → Numbers p s words accept m u → number_of a ≤ u
+    least u x = sought_most 0 a y x (big x)
 
-    next : (u : ℕ) → Numbers p s words accept m u → u ≢ a → 1024 + (d - 1023) ≤ u
-    next u x ne = let l = least u x in let k = sought_least y in omega arith
+    next : (u : ℕ) → Numbers p s words accept m u → u ≢ number_of a → 1024 + (number_of a - 1023) ≤ u
+    next u x ne = let l = least u x in let k = sought_least p words m 0 a y in omega arith
 
-    above : 1024 + (d - 1023) ≤ t.upper
-    above = let l = least t.lower t.first in let k = sought_least y in let o = t.order in omega arith
+    above : 1024 + (number_of a - 1023) ≤ t.upper
+    above = let l = least t.lower t.first in let k = sought_least p words m 0 a y in let o = t.order in omega arith
 
-    apart : a < b
-    apart = ⊎_elim (λ l. let k = sought_least y in omega arith) (λ e. let l = above in let k = sought_most (d - 1023) z t.second above in let h = last t.second in omega arith) (sought_from (d - 1023) z)
+    apart : number_of a < number_of b
+    apart = ⊎_elim (λ l. let k = sought_least p words m 0 a y in omega arith) (λ e. let l = above in let k = sought_most (number_of a - 1023) b z t.second above in let h = last t.second in omega arith) (sought_from (number_of a - 1023) b z)
       where
         last : {u : ℕ} → Numbers p s words accept m u → u ≤ 4096
         last (Numbers.shifts h) = omega arith
         last (Numbers.reduces r k h) = omega arith
         last (Numbers.accepts h) = omega arith
 
-    pub lowest_others : Lowest (Numbers p s words accept m) a b
+    pub lowest_others : Lowest (Numbers p s words accept m) (number_of a) (number_of b)
     lowest_others = record {
-      first = sought_here 0 y t.lower t.first (big t.first);
-      second = sought_here (d - 1023) z t.upper t.second above;
+      first = sought_here 0 a y t.lower t.first (big t.first);
+      second = sought_here (number_of a - 1023) b z t.upper t.second above;
       lower = apart;
-      lowest = λ u x ne. sought_most (d - 1023) z x (next u x ne);
+      lowest = λ u x ne. sought_most (number_of a - 1023) b z x (next u x ne);
     }
 
 -- ---- writing
@@ -366,8 +377,11 @@ module _ (b : ℕ) (words : List ℕ) (t : List ℕ) where
     pub row_up : (t' : List ℕ) → Row b a words 0 t t' → Row b d words 0 t t'
     row_up t' w = record { long = w.long; cells = λ m. written_up (get_or t (b + m) 0) m (w.cells m); before = w.before }
 
-    pub row_down : (t' : List ℕ) → Row b d words 0 t t' → Row b a words 0 t t'
+    row_down : (t' : List ℕ) → Row b d words 0 t t' → Row b a words 0 t t'
     row_down t' w = record { long = w.long; cells = λ m. written_down (get_or t (b + m) 0) m (w.cells m); before = w.before }
+
+  pub row_all : (a d : ℕ) → ((i : ℕ) → a ≤ i → get_or words i 0 ≡ 0) → ((i : ℕ) → d ≤ i → get_or words i 0 ≡ 0) → (t' : List ℕ) → Row b a words 0 t t' → Row b d words 0 t t'
+  row_all a d qa qd t' w = ⊎_elim (λ l. row_up a d (omega arith) (λ i h k. qa i h) t' w) (λ g. row_down d a g (λ i h k. qd i h) t' w) (lt_or_ge a d)
 
   old_last_row : (p a s m : ℕ) {v : ℕ} → bit a m ≡ false → Written p s words 0 m v → Written p s words a m v
   old_last_row p a s m e (kept h k) = kept h e

@@ -12,20 +12,6 @@ table_area c n e t =
     covered table_size
     (build n (card.terminals c) (card.nonterminals c) (card.productions c) (card.left_of c) (card.length_of c) (λ q. get_or e q 0) (λ q x. get_or t (row_of c q + x) 0)) t
 
--- what stood at the places from a to b stands k places further up; the places below and behind are as they were
-pub record Raised (a b k : ℕ) (t t' : List ℕ) : Type 0 where
-  pub long : length t' ≡ length t
-  pub moved : (i : ℕ) → a ≤ i → i < b → get_or t' (i + k) 0 ≡ get_or t i 0
-  pub below : (i : ℕ) → i < a + k → get_or t' i 0 ≡ get_or t i 0
-  pub behind : (i : ℕ) → b + k ≤ i → get_or t' i 0 ≡ get_or t i 0
-
--- the first n numbers of e stand from place a on; other places are as they were
-pub record Copied (a n : ℕ) (e t t' : List ℕ) : Type 0 where
-  pub long : length t' ≡ length t
-  pub here : (q : ℕ) → q < n → get_or t' (a + q) 0 ≡ get_or e q 0
-  pub below : (i : ℕ) → i < a → get_or t' i 0 ≡ get_or t i 0
-  pub behind : (i : ℕ) → a + n ≤ i → get_or t' i 0 ≡ get_or t i 0
-
 -- the working rows of n states are moved up by n places, and the n entering symbols e stand in front of them
 pub record Inserted (c : List ℕ) (n : ℕ) (e t t' : List ℕ) : Type 0 where
   pub long : length t' ≡ length t

@@ -1,5 +1,5 @@
 -- What the words of one state say: for each production its lookaheads in the state, bit m for terminal m, and where the state accepts.
-use Rattle.std.specs.Prelude.{ℕ, ◌+◌, ◌≤◌, ◌<◌, ◌≡◌, ◌≢◌, true, false, List, length, get_or}
+use Rattle.std.specs.Prelude.{ℕ, ◌+◌, ◌≤◌, ◌<◌, ◌≡◌, ◌≢◌, true, false, List, length, get_or, Option, Some, None}
 use Rattle.sets.specs.Bit.{bit}
 use Rattle.items.specs.Item.{item}
 
@@ -14,13 +14,6 @@ pub record Live (p : ℕ) (words live : List ℕ) : Type 0 where
   pub none : (r : ℕ) → item live r ≡ false → get_or words r 0 ≡ 0
   pub beyond : (r : ℕ) → p ≤ r → get_or words r 0 ≡ 0
 
--- r is the first production from `start` on that is in the set, or 128
-pub record Next (live : List ℕ) (start r : ℕ) : Type 0 where
-  pub most : r ≤ 128
-  pub least : start ≤ r
-  pub here : r < 128 → item live r ≡ true
-  pub gap : (k : ℕ) → start ≤ k → k < r → item live k ≡ false
-
 -- two numbers have A
 pub record Two (A : ℕ → Type 0) : Type 0 where
   pub lower : ℕ
@@ -29,10 +22,19 @@ pub record Two (A : ℕ → Type 0) : Type 0 where
   pub second : A upper
   pub order : lower < upper
 
--- the number of the lowest production from `start` on, one of p, that has the lookahead m; 4096 where there is none
-pub data Sought (p : ℕ) (words : List ℕ) (m start : ℕ) : ℕ → Type 0 where
-  found : (r : ℕ) → start ≤ r → r < p → bit (get_or words r 0) m ≡ true → ((k : ℕ) → start ≤ k → k < r → bit (get_or words k 0) m ≡ true → ⊥) → Sought p words m start (1024 + r)
-  missing : ((k : ℕ) → start ≤ k → k < p → bit (get_or words k 0) m ≡ true → ⊥) → Sought p words m start 4096
+-- no production from `start` on and below `to` has the lookahead m
+abbrev pub NoneHas : List ℕ → ℕ → ℕ → ℕ → Type 0
+NoneHas words m start to = (k : ℕ) → start ≤ k → k < to → bit (get_or words k 0) m ≡ true → ⊥
+
+-- the lowest production from `start` on, one of p, that has the lookahead m
+abbrev pub Sought : ℕ → List ℕ → ℕ → ℕ → Option ℕ → Type 0
+Sought p words m start (Some r) = (start ≤ r) × (r < p) × (bit (get_or words r 0) m ≡ true) × NoneHas words m start r
+Sought p words m start None = NoneHas words m start p
+
+-- the number that reduces by a production, and the one that accepts where there is none
+abbrev pub number_of : Option ℕ → ℕ
+number_of (Some r) = 1024 + r
+number_of None = 4096
 
 -- v was put at the places behind b that the word has
 pub record Put (b word v : ℕ) (t t' : List ℕ) : Type 0 where

@@ -1,38 +1,18 @@
-// The cells of one state from its words, what stands in front of a table's rows (header, entering symbols), and the zeroing of areas.
+// The cells of one state from its words, and what stands in front of a table's rows (header, entering symbols).
 #![tactic(auto)]
 
-ghost use Rattle.std.specs.Prelude.{◌≡◌, true, ◌↔◌, ◌≢◌, ℕ, ◌+◌, ◌*◌, ◌<◌, ◌≤◌, length, take};
+ghost use Rattle.std.specs.Prelude.{◌≡◌, true, ◌↔◌, ◌≢◌, ℕ, ◌+◌, ◌*◌, ◌<◌, ◌≤◌, length, take, IfSome};
 ghost use Rattle.sets.specs.Bit.{bit};
 ghost use Rattle.grammar.specs.Card.{terminals as terminals_of, productions as productions_of};
 ghost use Rattle.tables.specs.Layout.{header_size};
 ghost use Rattle.tables.specs.Conflicts.{Lowest};
-ghost use Rattle.cells.specs.Words.{Numbers, Live, Next, Two, Sought, Put, Row};
+ghost use Rattle.cells.specs.Words.{Numbers, Live, Two, Sought, number_of, Put, Row};
 ghost use Rattle.sets.specs.Lists.{covered};
 ghost use Rattle.areas.specs.Areas.{table_size, row_of};
-ghost use Rattle.cells.specs.Areas.{table_area, Raised, Copied, Inserted, Arrays, Header};
+ghost use Rattle.cells.specs.Areas.{table_area, Inserted, Arrays, Header};
 
-// The first production from a number on that is in the set `live`, or 128 where there is none.
-pub fn next(live: [u64; 2], start: usize) -> usize
-    requires { start ≤ 128 }
-    ensures { Next live start result }
-{
-    let k = start / 64;
-    if k == 2 {
-        return 128;
-    }
-    let v = live[k] >> (start % 64);
-    if v != 0 {
-        return start + u64::trailing_zeros(v) as usize;
-    }
-    if k == 1 {
-        return 128;
-    }
-    let u = live[1];
-    if u != 0 {
-        return 64 + u64::trailing_zeros(u) as usize;
-    }
-    128
-}
+// The number of the acceptance, as in specs/Actions.antt.
+const ACCEPTS: u16 = 4096;
 
 // The terminals at which two numbers of a state meet: it shifts `shifts`, production r has the lookaheads words[r], and it accepts at `accept`.
 // Only the productions in `live` have any.
@@ -42,29 +22,33 @@ pub fn meeting(p: usize, shifts: u64, words: &[u64; 128], live: [u64; 2], accept
 {
     let mut seen = shifts;
     let mut twice: u64 = 0;
-    let mut r = next(live, 0);
-    while r < p {
+    let mut from = 0;
+    while let Some(r) = sets::words::next(live, from) {
         let v = words[r];
-        twice = twice | (seen & v);
-        seen = seen | v;
-        r = next(live, r + 1);
+        twice |= seen & v;
+        seen |= v;
+        from = r + 1;
     }
     twice | (seen & accept)
 }
 
-// The number of the lowest production from `start` on that has the lookahead m; 4096 where there is none.
-fn lowest(p: usize, words: &[u64; 128], m: u32, start: usize) -> u16
+// The lowest production from `start` on that has the lookahead m.
+fn lowest(p: usize, words: &[u64; 128], m: u32, start: usize) -> Option<usize>
     requires { p ≤ 128 }
     ensures { Sought p words.now m start result }
 {
-    let mut r = start;
-    while r < p {
-        if sets::has(words[r], m) {
-            return 1024 + (r as u16);
-        }
-        r += 1;
+    (start..p).find(|r| sets::has(words[*r], m))
+}
+
+// The number that reduces by a production, and the one that accepts where there is none.
+fn number(production: Option<usize>) -> u16
+    requires { IfSome production (λ r. r < 128) }
+    ensures { result ≡ number_of production }
+{
+    match production {
+        Some(r) => 1024 + r as u16,
+        None => ACCEPTS,
     }
-    4096
 }
 
 #[derive(Clone, Copy)]
@@ -78,12 +62,16 @@ pub fn pair(p: usize, s: u16, words: &[u64; 128], m: u32) -> Met
     requires { p ≤ 128 }
     ensures { (accept : ℕ) → s < 1024 → Two (Numbers p s words.now accept m) → Lowest (Numbers p s words.now accept m) result.lower result.upper }
 {
-    let a = lowest(p, words, m, 0);
+    let first = lowest(p, words, m, 0);
+    let a = number(first);
     if s != 0 {
         return Met { lower: s, upper: a };
     }
-    let b = lowest(p, words, m, card::wide(a) - 1023);
-    Met { lower: a, upper: b }
+    let second = first.and_then(|r| lowest(p, words, m, r + 1));
+    Met {
+        lower: a,
+        upper: number(second),
+    }
 }
 
 // Puts v at the places behind b that the word has.
@@ -95,7 +83,7 @@ fn put(t: &mut [u16], b: usize, word: u64, v: u16)
     while left != 0 {
         let m = u64::trailing_zeros(left) as usize;
         t[b + m] = v;
-        left = left & (left - 1);
+        left &= left - 1;
     }
 }
 
@@ -104,12 +92,12 @@ pub fn write(t: &mut [u16], b: usize, p: usize, words: &[u64; 128], live: [u64; 
     requires { (p ≤ 128) × (b + 64 ≤ length t.old) × Live p words.now live }
     ensures { Row b p words.now accept t.old t.new }
 {
-    let mut r = next(live, 0);
-    while r < p {
-        put(t, b, words[r], 1024 + (r as u16));
-        r = next(live, r + 1);
+    let mut from = 0;
+    while let Some(r) = sets::words::next(live, from) {
+        put(t, b, words[r], 1024 + r as u16);
+        from = r + 1;
     }
-    put(t, b, accept, 4096);
+    put(t, b, accept, ACCEPTS);
 }
 
 // Copies the left sides and the lengths of the card c into the table area, behind the sizes.
@@ -117,13 +105,11 @@ fn arrays(c: &[u16], t: &mut [u16], p: u16)
     requires { (p ≡ productions_of c.now) × (header_size p ≤ length t.old) }
     ensures { Arrays c.now (productions_of c.now) t.old t.new }
 {
-    let mut r: u16 = 0;
-    while r < p {
-        let i = tables::left_at(card::wide(r));
-        let j = tables::length_at(card::wide(p), card::wide(r));
+    for r in 0..p {
+        let i = tables::left_at(usize::from(r));
+        let j = tables::length_at(usize::from(p), usize::from(r));
         t[i] = card::left(c, r);
         t[j] = card::length(c, r);
-        r += 1;
     }
 }
 
@@ -140,39 +126,16 @@ fn header(c: &[u16], t: &mut [u16], n: u16)
     arrays(c, t, p);
 }
 
-// Moves the numbers at the places from a to b up by k, the last one first.
-fn raise(t: &mut [u16], a: usize, b: usize, k: usize)
-    requires { (a ≤ b) × (b + k ≤ length t.old) }
-    ensures { Raised a b k t.old t.new }
-{
-    let mut i = b;
-    while a < i {
-        i -= 1;
-        t[i + k] = t[i];
-    }
-}
-
-// Writes the first n numbers of e from place a on.
-fn copy(t: &mut [u16], a: usize, e: &[u16; 256], n: usize)
-    requires { (n ≤ 256) × (a + n ≤ length t.old) }
-    ensures { Copied a n e.now t.old t.new }
-{
-    let mut q: usize = 0;
-    while q < n {
-        t[a + q] = e[q];
-        q += 1;
-    }
-}
-
 // Moves the working rows of n states to where the table has them, and writes the entering symbols in front. Gives the end of the rows.
+#[tactic(auto, using(crate::proofs::AreaLaws::row_first, areas::proofs::RowLaws::row_header))]
 fn insert(c: &[u16], t: &mut [u16], e: &[u16; 256], n: usize) -> usize
     requires { (n ≤ 256) × (row_of c.now n + n ≤ table_size) × (table_size ≤ length t.old) }
     ensures { (result ≡ row_of c.now n + n) × Inserted c.now n e.now t.old t.new }
 {
     let first = areas::row(c, 0);
     let end = areas::row(c, n);
-    raise(t, first, end, n);
-    copy(t, first, e, n);
+    t.copy_within(first..end, first + n);
+    t[first..first + n].copy_from_slice(&e[..n]);
     end + n
 }
 
@@ -181,41 +144,7 @@ pub fn finish(c: &[u16], t: &mut [u16], e: &[u16; 256], n: u16)
     requires { (0 < terminals_of c.now) × (n ≤ 256) × (row_of c.now n + n ≤ table_size) × (table_size ≤ length t.old) }
     ensures { t.new ≡ table_area c.now n e.now t.old }
 {
-    let end = insert(c, t, e, card::wide(n));
+    let end = insert(c, t, e, usize::from(n));
     header(c, t, n);
-    clear16(t, end, areas::TABLE);
-}
-
-// Zeros the places from a to k, of numbers of each width.
-pub fn clear16(t: &mut [u16], a: usize, k: usize)
-    requires { (a ≤ k) × (k ≤ length t.old) }
-    ensures { t.new ≡ covered k (take a t.old) t.old }
-{
-    let mut i = a;
-    while i < k {
-        t[i] = 0;
-        i += 1;
-    }
-}
-
-pub fn clear32(t: &mut [u32], a: usize, k: usize)
-    requires { (a ≤ k) × (k ≤ length t.old) }
-    ensures { t.new ≡ covered k (take a t.old) t.old }
-{
-    let mut i = a;
-    while i < k {
-        t[i] = 0;
-        i += 1;
-    }
-}
-
-pub fn clear64(t: &mut [u64], a: usize, k: usize)
-    requires { (a ≤ k) × (k ≤ length t.old) }
-    ensures { t.new ≡ covered k (take a t.old) t.old }
-{
-    let mut i = a;
-    while i < k {
-        t[i] = 0;
-        i += 1;
-    }
+    t[end..areas::TABLE].fill(0);
 }

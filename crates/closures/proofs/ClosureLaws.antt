@@ -1,5 +1,5 @@
 -- A walk over the items of a set, and the closure by those of the nonterminals after the dots.
-use mathlib.Core.Bool.{true, true≢false, false≢true}
+use mathlib.Core.Bool.{true, false, true≢false, false≢true}
 use mathlib.Core.List.{List}
 use mathlib.Core.Logic.{◌⊎◌, inl, inr, ⊎_elim}
 use mathlib.Core.Path.{◌≡◌, sym, ap, ◌∙◌}
@@ -14,18 +14,10 @@ use Rattle.closures.specs.Numbers.{first_of, after_of}
 use Rattle.closures.specs.Sets.{Reach, base, Closed, Advanced}
 use Rattle.grammar.proofs.CardLaws.{WellFormed}
 use Rattle.grammar.specs.Card.{terminals, nonterminals, productions, left_of}
-use Rattle.items.specs.Item.{set_size, item_limit, item, Union, Shifted, Next}
+use Rattle.items.specs.Item.{set_size, item_limit, item, Union, Shifted}
 use Rattle.sets.proofs.BitLaws.{bit_zero}
 use Rattle.sets.proofs.HasLaws.{lt_or_ge, or_cases, or_left, or_right}
 use Rattle.sets.specs.Bit.{bit}
-
--- i is the next item of s
-pub record Walk (s : List ℕ) (i : ℕ) : Type 0 where
-  pub most : i ≤ item_limit
-  pub here : i < item_limit → item s i ≡ true
-
-pub walk_next : (s : List ℕ) (n r : ℕ) → Next s n r → Walk s r
-walk_next s n r q = record { most = q.most; here = q.here }
 
 -- r is s, and what the items of s below n bring
 pub record Closing (c z s : List ℕ) (n : ℕ) (r : List ℕ) : Type 0 where
@@ -39,10 +31,10 @@ module _ (c z s : List ℕ) where
   closing_start = record { kept = λ k h. h; all = λ i j k l. absurd (not-suc-le-zero l); from = base; shut = λ i h. inl h }
 
   -- no item stands between n and r
-  pub closing_next : (n r : ℕ) (t : List ℕ) → Closing c z s n t → Next s n r → Closing c z s r t
+  pub closing_next : (n r : ℕ) (t : List ℕ) → Closing c z s n t → ((k : ℕ) → n ≤ k → k < r → item s k ≡ false) → Closing c z s r t
   closing_next n r t p q = record {
     kept = p.kept;
-    all = λ i j k l e. ⊎_elim (λ (g : i < n). p.all i j k g e) (λ (g : n ≤ i). absurd (true≢false (sym e ∙ q.gap i g l))) (lt_or_ge i n);
+    all = λ i j k l e. ⊎_elim (λ (g : i < n). p.all i j k g e) (λ (g : n ≤ i). absurd (true≢false (sym e ∙ q i g l))) (lt_or_ge i n);
     from = p.from;
     shut = p.shut;
   }

@@ -2,13 +2,14 @@
 use mathlib.Core.List.{List}
 use mathlib.Core.Logic.{⊎_elim}
 use mathlib.Core.Path.{◌≡◌, sym, ap, ◌∙◌}
-use Prim.Native.Nat.{ℕ, suc, ◌+◌, ◌≤◌, ◌<◌}
+use Prim.Native.Nat.{ℕ, suc, ◌+◌, ◌-◌, ◌≤◌, ◌<◌}
 use native.Mathlib.Omega.{arith}
-use lib.ListN.{length, set, length-set}
-use lib.Seq.{get_or-set_same, get_or-set_other}
+use lib.ListN.{length, get_or, set, replicate, length-set, length-replicate, get_or-replicate}
+use lib.Seq.{get_or-set_same, get_or-set_other, paste}
 use Rattle.items.specs.Item.{item_limit}
-use Rattle.closures.proofs.NumberLaws.{first_next, after_at, after_end, after_added}
-use Rattle.closures.specs.Areas.{Filled}
+use Rattle.items.proofs.AreaLaws.{paste_low, paste_mid, paste_high}
+use Rattle.closures.proofs.NumberLaws.{Bounds, first_next, after_at, after_end, after_added, after_high}
+use Rattle.closures.specs.Areas.{Filled, Kept}
 use Rattle.closures.specs.Numbers.{first_of, after_of}
 use Rattle.grammar.proofs.CardLaws.{WellFormed}
 use Rattle.grammar.specs.Card.{terminals, productions, length_of, symbol_of, start_of}
@@ -61,3 +62,25 @@ first_after c r f l j ef el ej =
     let z = first_next c r in
     let e : first_of c (r + 1) ≡ first_of c (suc r) = ap (first_of c) (let y : r + 1 ≡ suc r = omega arith in y) in
     omega arith
+
+-- the symbol after the dot of a production's first item
+pub first_filled : (c w : List ℕ) (r f : ℕ) → Bounds c r → Filled c w item_limit → f ≡ first_of c r → get_or w f 0 ≡ after_of c (first_of c r)
+first_filled c w r f b p e = p.filled f (omega (arith, b.items_to)) ∙ ap (after_of c) e
+
+-- and zeros behind the last item
+pub filled_rest : (c w : List ℕ) (n m : ℕ) → first_of c (productions c) < n → n + m ≡ item_limit → item_limit ≤ length w → Filled c w n
+    → Filled c (paste w n (replicate m 0) m) item_limit × Kept w item_limit (paste w n (replicate m 0) m)
+filled_rest c w n m h e l p =
+    let fit : n + m ≤ length w = omega arith in
+    let z : m ≤ length (replicate {A = ℕ} m 0) = omega (arith, length-replicate {A = ℕ} m 0) in (
+      record {
+        filled = λ i g.
+            ⊎_elim (λ (v : i < n). paste_low w n (replicate m 0) m fit z i v ∙ p.filled i v)
+            (λ (v : n ≤ i).
+            let k : n + (i - n) ≡ i = omega arith in
+            ap (λ (x : ℕ). get_or (paste w n (replicate m 0) m) x 0) (sym k) ∙ paste_mid w n (replicate m 0) m fit z (i - n) (omega arith)
+            ∙ get_or-replicate m (i - n) 0 0 (omega arith) ∙ sym (after_high c i (omega arith)))
+            (lt_or_ge i n);
+      },
+      record { kept = λ k g. paste_high w n (replicate m 0) m fit z k (omega arith) },
+    )

@@ -4,13 +4,12 @@ use mathlib.Core.List.{List}
 use mathlib.Core.Logic.{◌⊎◌, inl, inr, ⊎_elim}
 use mathlib.Core.Path.{◌≡◌, refl, sym, ap, ◌∙◌}
 use Prim.Native.Nat.{ℕ, ◌+◌, ◌-◌, ◌*◌, ◌%◌, ◌^◌, ◌≤◌, ◌<◌}
-use native.Mathlib.Nat.{not-suc-le-zero, le_refl}
+use native.Mathlib.Nat.{not-suc-le-zero}
 use native.Mathlib.Omega.{arith}
 use lib.Bits.{bit_or}
 use lib.Dec.{eqb}
 use lib.ListN.{length, get_or, set, replicate, length-set, length-replicate, get_or-replicate, get_or-eq_default}
 use lib.Seq.{get_or-set_same, get_or-set_other}
-use borrow.Author.Count.{below_more}
 use borrow.Author.Tests.{eqb-true, eq-eqb}
 use Rattle.closures.proofs.NumberLaws.{after_most}
 use Rattle.closures.specs.Areas.{closures_at, Leads, own, next, Begun, Through, Widened, Led, Firsts, Closures, Added}
@@ -99,23 +98,6 @@ through_taken a k b e = record {
   from = λ m h. ⊎_elim inl (λ u. inr (e, u)) (has_or a b m h);
 }
 
-pub through_left : (a k b : ℕ) → bit a k ≡ false → Through a k b a
-through_left a k b e = record { kept = λ m h. h; all = λ m u h. absurd (false≢true (sym e ∙ u)); from = λ m h. inl h }
-
-pub widen_start : (w : List ℕ) (k : ℕ) → length w ≡ 60 → Widened w 0 k w
-widen_start w k l = record { long = l; through = λ j h. absurd (not-suc-le-zero h); rest = λ j h. refl }
-
-pub widen_more : (w : List ℕ) (i k a b v : ℕ) (t : List ℕ) → Widened w i k t → i < 60 → b ≡ get_or w k 0 → a ≡ get_or t i 0 → Through a k b v → Widened w (i + 1) k (set t i v)
-widen_more w i k a b v t d h eb ea u =
-    let ta : a ≡ get_or w i 0 = ea ∙ d.rest i (le_refl i) in
-    record {
-      long = simp length-set d.long;
-      through = below_more _ i
-          (λ j l. rw (get_or-set_other t i j v 0 (λ e. omega arith)) (d.through j l))
-          (rw (get_or-set_same t i v 0 (omega (arith, d.long)), sym ta, sym eb) u);
-      rest = λ j l. get_or-set_other t i j v 0 (λ e. omega arith) ∙ d.rest j (omega arith);
-    }
-
 -- ---- all of them
 
 -- what is reached through the nonterminals below k is there
@@ -124,9 +106,6 @@ pub record Leading (c t : List ℕ) (k : ℕ) : Type 0 where
   pub edges : (r m : ℕ) → r < productions c → after_of c (first_of c r) ≡ terminals c + m → bit (get_or t (left_of c r - terminals c) 0) m ≡ true
   pub closed : (j m l : ℕ) → j < nonterminals c → m < k → bit (get_or t j 0) m ≡ true → bit (get_or t m 0) l ≡ true → bit (get_or t j 0) l ≡ true
   pub from : (j m : ℕ) → bit (get_or t j 0) m ≡ true → Leads c j m
-
-pub lead_start : (c w : List ℕ) → Begun c w (productions c) → Leading c w 0
-lead_start c w b = record { long = b.long; edges = b.all; closed = λ j m l h g. absurd (not-suc-le-zero g); from = b.from }
 
 module _ (c t : List ℕ) (k : ℕ) (u : List ℕ) (f : WellFormed c) (p : Leading c t k) (d : Widened t (nonterminals c) k u) (h : k < nonterminals c) where
   abbrev In : ℕ → ℕ → Type 0
@@ -203,9 +182,6 @@ firsts_take c w n s u o y p = record {
 }
 
 -- ---- the closures of the nonterminals
-
-pub closures_start : (c z : List ℕ) → Closures c z 0
-closures_start c z = record { starts = λ j q l. absurd (not-suc-le-zero l); all = λ j i q l. absurd (not-suc-le-zero l); from = λ j k l. absurd (not-suc-le-zero l) }
 
 -- what nonterminals that begin T + j bring is brought by an item before T + j
 brought : (c s : List ℕ) (i j m : ℕ) → item s i ≡ true → after_of c i ≡ terminals c + j → Leads c j m → (q : ℕ) → q < productions c → left_of c q ≡ terminals c + m → Reach c s (first_of c q)

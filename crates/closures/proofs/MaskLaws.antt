@@ -46,9 +46,6 @@ cleared c z₀ z x p h = record {
   wide = p.wide;
 }
 
-pub masked_start : (c z : List ℕ) → Masks c z 0 → Masked c z z 0
-masked_start c z m = record { masks = m; low = λ q h. refl; behind = kept_same z slots_end; wide = refl }
-
 pub masked_more : (c z₀ z y m u : List ℕ) (i x : ℕ) → Masked c z₀ z i → words_size ≤ length z → terminals c + nonterminals c ≤ 124 → i < item_limit → x ≡ after_of c i → x < terminals c + nonterminals c → m ≡ slot z (masks_at + x) → Put m i u → Added z (masks_at + x) u y
     → length y ≡ length z → Masked c z₀ y (i + 1)
 masked_more c z₀ z y m u i x p room w h ex hx em pu ad l = record {

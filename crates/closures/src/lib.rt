@@ -11,6 +11,8 @@ ghost use Rattle.closures.specs.Numbers.{first_of};
 ghost use Rattle.closures.specs.Sets.{Closed, Afters};
 ghost use Rattle.closures.specs.Areas.{masks_at, slots_end, Kept, Filled, Begun, Through, Widened, Led, Firsts, Closures, Masks, Masked, Prepared};
 
+use sets::words;
+
 // The slots of the first nonterminal, and of the first symbol.
 pub const CLOSURES: usize = 256;
 
@@ -21,12 +23,10 @@ fn fill_production(c: &[u16], w: &mut [u32], r: u16, f: usize, s: u32, n: u16)
     requires { (form_fault c.now ≡ 0) × (r < productions c.now) × (n ≡ length_of c.now r) × (s ≡ start_of c.now r) × (f ≡ first_of c.now r) × (item_limit ≤ length w.old) × Filled c.now w.old f }
     ensures { Filled c.now w.new (first_of c.now (suc r)) × Kept w.old item_limit w.new }
 {
-    let mut i: u16 = 0;
-    while i < n {
-        w[f + card::wide(i)] = card::wider(card::symbol(c, s + card::wider(i)));
-        i += 1;
+    for i in 0..n {
+        w[f + usize::from(i)] = u32::from(card::symbol(c, s + u32::from(i)));
     }
-    w[f + card::wide(n)] = 0;
+    w[f + usize::from(n)] = 0;
 }
 
 // Zeros from item n on.
@@ -34,11 +34,7 @@ fn clear(c: &[u16], w: &mut [u32], n: usize)
     requires { (first_of c.now (productions c.now) < n) × (n ≤ item_limit) × (item_limit ≤ length w.old) × Filled c.now w.old n }
     ensures { Filled c.now w.new item_limit × Kept w.old item_limit w.new }
 {
-    let mut i = n;
-    while i < items::LIMIT {
-        w[i] = 0;
-        i += 1;
-    }
+    w[n..items::LIMIT].fill(0);
 }
 
 // The symbol after the dot of each item, 0 where there is none.
@@ -48,16 +44,14 @@ pub fn fill(c: &[u16], w: &mut [u32])
 {
     let p = card::productions(c);
     let mut s: u32 = 0;
-    let mut r: u16 = 0;
-    while r < p {
+    for r in 0..p {
         let n = card::length(c, r);
-        let f = card::wide32(s) + card::wide(r);
+        let f = s as usize + usize::from(r);
         fill_production(c, w, r, f, s, n);
-        s += card::wider(n);
-        r += 1;
+        s += u32::from(n);
     }
-    let f = card::wide32(s) + card::wide(p);
-    w[f] = card::wider(card::terminals(c));
+    let f = s as usize + usize::from(p);
+    w[f] = u32::from(card::terminals(c));
     clear(c, w, f + 1);
 }
 
@@ -66,19 +60,17 @@ fn begun(c: &[u16], w: &[u32]) -> [u64; 60]
     requires { (form_fault c.now ≡ 0) × (item_limit ≤ length w.now) × Filled c.now w.now item_limit }
     ensures { Begun c.now result (productions c.now) }
 {
-    let t = card::wider(card::terminals(c));
+    let t = u32::from(card::terminals(c));
     let p = card::productions(c);
     let mut b = [0u64; 60];
     let mut f: usize = 0;
-    let mut r: u16 = 0;
-    while r < p {
+    for r in 0..p {
         let x = w[f];
         if t <= x {
-            let j = card::wide32(card::wider(card::left(c, r)) - t);
-            b[j] = b[j] | (1 << (x - t));
+            let j = (u32::from(card::left(c, r)) - t) as usize;
+            b[j] |= 1 << (x - t);
         }
-        f += card::wide(card::length(c, r)) + 1;
-        r += 1;
+        f += usize::from(card::length(c, r)) + 1;
     }
     b
 }
@@ -97,10 +89,8 @@ fn widen(b: [u64; 60], n: usize, k: usize) -> [u64; 60]
 {
     let word = b[k];
     let mut t = b;
-    let mut i = 0;
-    while i < n {
+    for i in 0..n {
         t[i] = through(t[i], k as u32, word);
-        i += 1;
     }
     t
 }
@@ -110,13 +100,11 @@ fn led(c: &[u16], w: &[u32]) -> [u64; 60]
     requires { (form_fault c.now ≡ 0) × (item_limit ≤ length w.now) × Filled c.now w.now item_limit }
     ensures { Led c.now result }
 {
-    let n = card::wide(card::nonterminals(c));
+    let n = usize::from(card::nonterminals(c));
     let mut t = begun(c, w);
-    let mut k = 0;
-    while k < n {
+    for k in 0..n {
         let u = widen(t, n, k);
         t = u;
-        k += 1;
     }
     t
 }
@@ -130,14 +118,12 @@ fn firsts(c: &[u16], b: u64) -> [u64; 11]
     let p = card::productions(c);
     let mut s = items::empty();
     let mut f: usize = 0;
-    let mut r: u16 = 0;
-    while r < p {
-        if sets::has(b, card::wider(card::left(c, r) - t)) {
+    for r in 0..p {
+        if sets::has(b, u32::from(card::left(c, r) - t)) {
             let u = items::with(s, f);
             s = u;
         }
-        f += card::wide(card::length(c, r)) + 1;
-        r += 1;
+        f += usize::from(card::length(c, r)) + 1;
     }
     s
 }
@@ -147,13 +133,11 @@ fn fill_closures(c: &[u16], w: &[u32], z: &mut [u64])
     requires { (form_fault c.now ≡ 0) × (item_limit ≤ length w.now) × Filled c.now w.now item_limit × (words_size ≤ length z.old) }
     ensures { Closures c.now z.new (nonterminals c.now) × Kept z.old (masks_at * set_size) z.new }
 {
-    let n = card::wide(card::nonterminals(c));
+    let n = usize::from(card::nonterminals(c));
     let b = led(c, w);
-    let mut j: usize = 0;
-    while j < n {
+    for j in 0..n {
         let r = firsts(c, b[j] | (1 << j));
         items::store(z, (CLOSURES + j) * items::SIZE, r);
-        j += 1;
     }
 }
 
@@ -162,11 +146,9 @@ fn clear_masks(c: &[u16], z: &mut [u64])
     requires { (form_fault c.now ≡ 0) × (words_size ≤ length z.old) }
     ensures { Masked c.now z.old z.new 0 }
 {
-    let n = card::wide(card::terminals(c)) + card::wide(card::nonterminals(c));
-    let mut x: usize = 0;
-    while x < n {
+    let n = usize::from(card::terminals(c)) + usize::from(card::nonterminals(c));
+    for x in 0..n {
         items::store(z, (MASKS + x) * items::SIZE, items::empty());
-        x += 1;
     }
 }
 
@@ -175,12 +157,10 @@ fn fill_masks(c: &[u16], w: &[u32], z: &mut [u64])
     requires { (form_fault c.now ≡ 0) × (item_limit ≤ length w.now) × Filled c.now w.now item_limit × (words_size ≤ length z.old) × Masks c.now z.old 0 }
     ensures { Masked c.now z.old z.new item_limit }
 {
-    let mut i: usize = 0;
-    while i < items::LIMIT {
-        let at = (MASKS + card::wide32(w[i])) * items::SIZE;
+    for i in 0..items::LIMIT {
+        let at = (MASKS + w[i] as usize) * items::SIZE;
         let m = items::load(z, at);
         items::store(z, at, items::with(m, i));
-        i += 1;
     }
 }
 
@@ -199,19 +179,19 @@ pub fn closure(c: &[u16], w: &[u32], z: &[u64], s: [u64; 11]) -> [u64; 11]
     requires { (form_fault c.now ≡ 0) × (item_limit ≤ length w.now) × Filled c.now w.now item_limit × Prepared c.now z.now }
     ensures { Closed c.now s result }
 {
-    let t = card::wider(card::terminals(c));
+    let t = u32::from(card::terminals(c));
     let mut r = s;
-    let mut i = items::next(s, 0);
-    while i < items::LIMIT {
+    let mut from = 0;
+    while let Some(i) = words::next(s, from) {
         let x = w[i];
         if t <= x {
             let u = items::join(
                 r,
-                items::load(z, (CLOSURES + card::wide32(x - t)) * items::SIZE),
+                items::load(z, (CLOSURES + (x - t) as usize) * items::SIZE),
             );
             r = u;
         }
-        i = items::next(s, i + 1);
+        from = i + 1;
     }
     r
 }
@@ -221,12 +201,12 @@ pub fn afters(c: &[u16], w: &[u32], s: [u64; 11]) -> [u64; 11]
     requires { (form_fault c.now ≡ 0) × (item_limit ≤ length w.now) × Filled c.now w.now item_limit }
     ensures { Afters c.now s item_limit result }
 {
-    let mut a = [0u64; 11];
-    let mut i = items::next(s, 0);
-    while i < items::LIMIT {
-        let x = card::wide32(w[i]);
-        a[x / 64] = a[x / 64] | (1 << (x % 64));
-        i = items::next(s, i + 1);
+    let mut a = items::empty();
+    let mut from = 0;
+    while let Some(i) = words::next(s, from) {
+        let u = items::with(a, w[i] as usize);
+        a = u;
+        from = i + 1;
     }
     a
 }

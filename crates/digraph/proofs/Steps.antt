@@ -1,12 +1,17 @@
 -- The steps of the walk in the area, from the mathematics on functions. Assumes nothing.
 use mathlib.Core.Path.{◌≡◌, refl, sym, ap, ◌∙◌, subst, fun_ext}
 use mathlib.Core.List.{List}
-use mathlib.Core.Logic.{◌⊎◌, inl, inr, ⊎_elim}
+use mathlib.Core.Logic.{◌⊎◌, ⊎_elim}
 use Prim.Native.Nat.{ℕ, ◌+◌, ◌-◌, ◌≤◌, ◌<◌, min}
 use native.Mathlib.Omega.{arith}
 use lib.Bits.{bit_or}
 use lib.ListN.{length, set, length-set}
 use lib.Seq.{get_or-set_same, get_or-set_other}
+use lib.ListN.{replicate, take, drop, length-replicate, length-drop, get_or-append}
+use lib.Seq.{length-take-le}
+use mathlib.Core.List.{◌++◌}
+use borrow.Rule.Slice.PartMut.{put_mid}
+use Rattle.std.proofs.lemmas.List.{get_or-append_right, get_or-replicate, get_or-take, get_or-drop}
 use Rattle.sets.specs.Bit.{Has}
 use Rattle.areas.specs.Areas.{words_size}
 use Rattle.transitions.specs.Places.{transition_limit, numbers_at, stack_at, shifts_at}
@@ -33,18 +38,36 @@ module _ (z : List ℕ) (i a j b : ℕ) (z' : List ℕ) (stored : z' ≡ set (se
   stored_other : (v : ℕ) → (v ≡ i → ⊥) → (v ≡ j → ⊥) → at z' v ≡ at z v
   stored_other v ni nj = ap (λ (l : List ℕ). at l v) stored ∙ get_or-set_other (set z i a) j v b 0 nj ∙ get_or-set_other z i v a 0 ni
 
--- a store to a set leaves the numbers
-pub num_set : (z : List ℕ) (x a v : ℕ) → x < transition_limit → num_in (set z x a) v ≡ num_in z v
-num_set z x a v h = get_or-set_other z x (numbers_at + v) a 0 (λ e. omega arith)
+-- zeros are put for the numbers of the nodes
+pub zeroed : (k n : ℕ) (z ys : List ℕ) → k ≤ transition_limit → words_size ≤ length z → n ≡ k → ys ≡ replicate (length (take n (drop numbers_at z))) 0
+    → Cleared k z (put_mid numbers_at n z ys)
+zeroed k n z ys small long en e = rw (en, e, en, count) (record { numbers = put; sets = λ v h. before v h; rest = behind })
+  where
+    front : length (take numbers_at z) ≡ numbers_at
+    front = length-take-le numbers_at z (omega arith)
 
--- one number more is cleared
-pub clear_more : (z0 z : List ℕ) (i : ℕ) → i < transition_limit → words_size ≤ length z → Cleared i z0 z → Cleared (i + 1) z0 (set z (numbers_at + i) 0)
-clear_more z0 z i small long C = record {
-  numbers = λ v h. ⊎_elim (λ l. get_or-set_other z (numbers_at + i) (numbers_at + v) 0 0 (λ e. omega arith) ∙ C.numbers v l)
-      (λ q. ap (num_in (set z (numbers_at + i) 0)) q ∙ get_or-set_same z (numbers_at + i) 0 0 (omega arith)) (below_suc h);
-  sets = λ v h. get_or-set_other z (numbers_at + i) v 0 0 (λ e. omega arith) ∙ C.sets v h;
-  rest = λ j h. get_or-set_other z (numbers_at + i) j 0 0 (λ e. omega arith) ∙ C.rest j h;
-}
+    count : length (take k (drop numbers_at z)) ≡ k
+    count = length-take-le k (drop numbers_at z) (omega (arith, length-drop numbers_at z))
+
+    many : length (replicate {A = ℕ} k 0) ≡ k
+    many = length-replicate k 0
+
+    before : (i : ℕ) → i < numbers_at → at (put_mid numbers_at k z (replicate k 0)) i ≡ at z i
+    before i h = get_or-append (take numbers_at z) _ 0 i (omega (arith, front)) ∙ get_or-take numbers_at z i 0 h
+
+    from : (i : ℕ) → at (put_mid numbers_at k z (replicate k 0)) (numbers_at + i) ≡ at (replicate k 0 ++ drop k (drop numbers_at z)) i
+    from i = let e : numbers_at + i - numbers_at ≡ i = omega arith in get_or-append_right (take numbers_at z) _ numbers_at (numbers_at + i) 0 front (omega arith) ∙ ap (at (replicate k 0 ++ drop k (drop numbers_at z))) e
+
+    put : (v : ℕ) → v < k → at (put_mid numbers_at k z (replicate k 0)) (numbers_at + v) ≡ 0
+    put v h = from v ∙ get_or-append (replicate k 0) _ 0 v (omega (arith, many)) ∙ get_or-replicate k v 0 0 h
+
+    behind : (i : ℕ) → stack_at ≤ i → at (put_mid numbers_at k z (replicate k 0)) i ≡ at z i
+    behind i h =
+        let e : i ≡ numbers_at + (i - numbers_at) = omega arith in
+        let f : numbers_at + (k + (i - numbers_at - k)) ≡ i = omega arith in
+        ap (at (put_mid numbers_at k z (replicate k 0))) e ∙ from (i - numbers_at)
+        ∙ get_or-append_right (replicate k 0) _ k (i - numbers_at) 0 many (omega arith)
+        ∙ get_or-drop k (drop numbers_at z) (i - numbers_at - k) 0 ∙ get_or-drop numbers_at z (k + (i - numbers_at - k)) 0 ∙ ap (at z) f
 
 pub kept_same : {k : ℕ} {z : List ℕ} {d : ℕ} → Room k z d → Kept k z d z d
 kept_same R = record { room = R; grows = omega arith; visited = λ v h e. e; rest = λ i h. refl }
@@ -193,26 +216,6 @@ module _ (k : ℕ) (z : List ℕ) (d x : ℕ) (R : Room k z d) (xk : x < k) (x0 
       entered z3 r l f = ⊎_elim
           (λ a. subst (Entered E k z d x z3) (sym a.1) (popped z3 l a.0 a.2))
           (λ a. subst (Entered E k z d x z3) (sym a.1) (subst (λ (y : List ℕ). Entered E k z d x y d2) (sym a.2) (left a.0))) f
-
--- ---- a node is visited
-module _ (E : ℕ → ℕ → Type 0) (k : ℕ) (z : List ℕ) (d y : ℕ) where
-  pub visit_new : (z' : List ℕ) (d' : ℕ) → Entered E k z d y z' d' → Visited E k z d y z' d'
-  visit_new z' d' N = record {
-    kept = N.kept;
-    marked = N.marked;
-    means = λ start I. let q = N.means start I in (q.0, q.1, inl q.2);
-  }
-
-  pub visit_old : Room k z d → y < k → (num_in z y ≡ 0 → ⊥) → Visited E k z d y z d
-  visit_old R yk y0 = record {
-    kept = kept_same R;
-    marked = y0;
-    means = λ start I. (
-      I,
-      frame_refl,
-      ⊎_elim (λ q. inl (inl (q, refl))) (λ q. let r = I.found y yk y0 q in inr (r.0, r.1, r.2, refl)) (eq_or (num_in z y) 65535),
-    );
-  }
 
 -- ---- the edges of a node are scanned
 module _ (E : ℕ → ℕ → Type 0) (k : ℕ) (z : List ℕ) (d x : ℕ) where

@@ -13,22 +13,10 @@ ghost use Rattle.relations.specs.Edge.{Edge};
 ghost use Rattle.digraph.specs.Walked.{Walked, at};
 ghost use Rattle.digraph.specs.Walk.{Room, Entered, Visited, Scanned, Popped, Finished, Cleared, None, num_in, stk_in};
 
-use relations::Relation;
+use relations::{Found, Relation};
 
 // The number of a node whose set is complete (the paper's infinity).
 const COMPLETE: u64 = 65535;
-
-fn wide(x: u64) -> usize
-    ensures { result ≡ x }
-{
-    x as usize
-}
-
-fn least(a: u64, b: u64) -> u64
-    ensures { result ≡ min a b }
-{
-    if a < b { a } else { b }
-}
 
 // Puts x on the stack, with the number of its position.
 fn push(z: &mut [u64], x: usize, depth: usize)
@@ -44,11 +32,9 @@ fn join(z: &mut [u64], x: usize, y: usize)
     requires { (words_size ≤ length z.old) × (x < transition_limit) × (y < transition_limit) }
     ensures { z.new ≡ set (set z.old x (bit_or (at z.old x) (at z.old y))) (numbers_at + x) (min (num_in z.old x) (num_in z.old y)) }
 {
-    z[x] = z[x] | z[y];
-    z[transitions::NUMBERS_AT + x] = least(
-        z[transitions::NUMBERS_AT + x],
-        z[transitions::NUMBERS_AT + y],
-    );
+    z[x] |= z[y];
+    let low = z[transitions::NUMBERS_AT + y];
+    z[transitions::NUMBERS_AT + x] = z[transitions::NUMBERS_AT + x].min(low);
 }
 
 // Makes v complete, with the set s.
@@ -65,10 +51,8 @@ fn pop(z: &mut [u64], k: usize, base: usize, depth: usize, s: u64)
     requires { (base ≤ depth) × (depth ≤ k) × (k ≤ transition_limit) × (words_size ≤ length z.old) × ((p : ℕ) → p < depth → stk_in z.old p < k) }
     ensures { Popped k base depth s z.old z.new }
 {
-    let mut d = depth;
-    while base < d {
-        d -= 1;
-        let v = wide(z[transitions::STACK_AT + d]);
+    for p in (base..depth).rev() {
+        let v = z[transitions::STACK_AT + p] as usize;
         settle(z, v, s);
     }
 }
@@ -78,7 +62,7 @@ fn finish(z: &mut [u64], k: usize, x: usize, base: usize, depth: usize) -> usize
     requires { (base ≤ depth) × (depth ≤ k) × (k ≤ transition_limit) × (words_size ≤ length z.old) × ((p : ℕ) → p < depth → stk_in z.old p < k) × (x < k) }
     ensures { Finished k x base depth z.old z.new result }
 {
-    if wide(z[transitions::NUMBERS_AT + x]) == base + 1 {
+    if z[transitions::NUMBERS_AT + x] as usize == base + 1 {
         let s = z[x];
         pop(z, k, base, depth, s);
         base
@@ -122,18 +106,15 @@ fn scan(
 {
     let mut d = depth;
     let mut cursor = relations::first_edge(relation, c, w, x as u32);
-    loop {
-        let found = relations::next_edge(relation, c, w, x as u32, cursor);
-        if found.more {
-            let y = found.node as usize;
-            d = visit(relation, c, w, z, k, y, d);
-            join(z, x, y);
-            let rest = found.cursor;
-            cursor = rest;
-        } else {
-            return d;
-        }
+    while let Some(Found { node, cursor: rest }) = relations::next_edge(
+        relation, c, w, x as u32, cursor,
+    ) {
+        let y = node as usize;
+        d = visit(relation, c, w, z, k, y, d);
+        join(z, x, y);
+        cursor = rest;
     }
+    d
 }
 
 // Enters y unless it is visited.
@@ -162,11 +143,7 @@ fn clear(z: &mut [u64], k: usize)
     requires { (k ≤ transition_limit) × (words_size ≤ length z.old) }
     ensures { Cleared k z.old z.new }
 {
-    let mut i: usize = 0;
-    while i < k {
-        z[transitions::NUMBERS_AT + i] = 0;
-        i += 1;
-    }
+    z[transitions::NUMBERS_AT..transitions::NUMBERS_AT + k].fill(0);
 }
 
 // Completes the sets of the nodes 0 to k - 1 along the relation.
@@ -175,9 +152,7 @@ pub fn complete(relation: Relation, c: &[u16], w: &[u32], z: &mut [u64], k: usiz
     ensures { Walked (Edge relation c.now w.now k) k z.old z.new }
 {
     clear(z, k);
-    let mut x: usize = 0;
-    while x < k {
+    for x in 0..k {
         visit(relation, c, w, z, k, x, 0);
-        x += 1;
     }
 }

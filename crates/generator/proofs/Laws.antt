@@ -41,7 +41,8 @@ use Rattle.bridge.proofs.SameStates.{states_same, next_inside}
 use Rattle.lr.proofs.CellLaws.{cell_single}
 use Rattle.lr.proofs.Entering.{entries, entered_below}
 use Rattle.bridge.proofs.ActionLaws.{cell_is, conflict_is}
-use Rattle.generator.specs.declared.Answer.{Answer}
+use Rattle.std.proofs.Common.{Result}
+use Rattle.generator.specs.declared.Refusal.{Refusal}
 use Rattle.generator.specs.Answer.{numbers, GeneratesAs}
 use Rattle.generator.specs.Phases.{Complete}
 
@@ -58,11 +59,11 @@ covered_same n l area area' e h =
 
 module _ (t₀ z₀ w₀ c : List ℕ) where
   -- refusals 1 to 10 leave the areas
-  pub keeps : (a : definition.Answer) (r : Answer) → (generated t₀ z₀ w₀ c).answer ≡ a → writes a ≡ false → numbers r ≡ numbers_of a → GeneratesAs (generated t₀ z₀ w₀ c) r t₀ z₀ w₀
+  pub keeps : (a : definition.Answer) (r : Result (Unit {0}) Refusal) → (generated t₀ z₀ w₀ c).answer ≡ a → writes a ≡ false → numbers r ≡ numbers_of a → GeneratesAs (generated t₀ z₀ w₀ c) r t₀ z₀ w₀
   keeps a r e n k = rw (left_alone t₀ z₀ w₀ c a e n) (record { answer = k; table = refl; words = refl; halves = refl })
 
   -- the others cover them
-  pub covers_all : (a : definition.Answer) (r : Answer) (t z w : List ℕ) → (generated t₀ z₀ w₀ c).answer ≡ a → writes a ≡ true → numbers r ≡ numbers_of a
+  pub covers_all : (a : definition.Answer) (r : Result (Unit {0}) Refusal) (t z w : List ℕ) → (generated t₀ z₀ w₀ c).answer ≡ a → writes a ≡ true → numbers r ≡ numbers_of a
       → t ≡ covered table_size (table_left a c) t₀ → z ≡ covered words_size [] z₀ → w ≡ covered halves_size [] w₀ → GeneratesAs (generated t₀ z₀ w₀ c) r t z w
   covers_all a r t z w e n k et ez ew = rw (all_covered t₀ z₀ w₀ c a e n) (record { answer = k; table = et; words = ez; halves = ew })
 

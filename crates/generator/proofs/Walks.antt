@@ -12,10 +12,9 @@ use Rattle.grammar.proofs.CardLaws.{well_formed}
 use Rattle.transitions.specs.Places.{transition_limit, shifts_at}
 use Rattle.transitions.specs.Data.{Ordered, Data, Direct, Begun}
 use Rattle.relations.specs.Edge.{Edge}
-use Rattle.relations.specs.declared.Relation.{Relation}
 use Rattle.relations.specs.declared.Relation.TheVariants as relation
 use Rattle.completion.proofs.Laws.{reaches_inside}
-use Rattle.digraph.specs.Walked.{Walked, at}
+use Rattle.digraph.specs.Walked.{Walked}
 use Rattle.generator.specs.Phases.{Complete}
 
 pub walk_ready : (c w : List ℕ) (n k r : ℕ) (next : ℕ → ℕ → ℕ) → Data c w n k next → r ≡ k → Ordered c w r × (r ≤ transition_limit)

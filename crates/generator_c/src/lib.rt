@@ -7,19 +7,12 @@ ghost use Rattle.lalr.specs.ComputedGenerator.{generated};
 ghost use Rattle.generator.specs.Answer.{numbers};
 ghost use Rattle.generator_c.specs.Out.{WritesOut};
 
-use generator::Answer;
+use generator::Refusal;
 
-fn five(a: Answer) -> [u64; 5]
-    ensures { result ≡ covered 5 (numbers a) [] }
+fn five(answer: Result<(), Refusal>) -> [u64; 5]
+    ensures { result ≡ covered 5 (numbers answer) [] }
 {
-    let n = generator::numbers(a);
-    [
-        n[0] as u64,
-        n[1] as u64,
-        n[2] as u64,
-        n[3] as u64,
-        n[4] as u64,
-    ]
+    generator::numbers(answer).map(u64::from)
 }
 
 #[unsafe(no_mangle)]
@@ -32,6 +25,5 @@ pub extern "C" fn sidumza_generate(
 )
     ensures { WritesOut (generated table.old words.old halves.old card.now) out.new table.new words.new halves.new }
 {
-    let a = generator::generate(card, table, words, halves);
-    *out = five(a);
+    *out = five(generator::generate(card, table, words, halves));
 }

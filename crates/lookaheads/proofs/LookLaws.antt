@@ -1,7 +1,7 @@
 -- The lookaheads of a production in a state: joined over the states from which its right side leads there.
 use Prim.Native.Nat.{ℕ, suc, ◌+◌, ◌-◌, ◌*◌, ◌/◌, ◌%◌, ◌≤◌, ◌<◌}
 use mathlib.Core.Path.{◌≡◌, refl, sym, ap, ap₂, ◌∙◌, subst}
-use mathlib.Core.Bool.{true, false, not, ◌&&◌, true≢false, false≢true}
+use mathlib.Core.Bool.{true, false, true≢false, false≢true}
 use mathlib.Core.Logic.{◌≢◌, ◌⊎◌, inl, inr, ⊎_elim}
 use mathlib.Core.List.{List}
 use native.Mathlib.Omega.{arith}
@@ -16,20 +16,19 @@ use Rattle.items.specs.Item.{item, put}
 use Rattle.items.proofs.ItemLaws.{item_put}
 use Rattle.grammar.specs.Card.{productions, left_of, length_of, symbol_of, start_of, form_fault}
 use Rattle.grammar.proofs.CardLaws.{well_formed}
-use Rattle.state_sets.specs.Words.{Lowest}
-use Rattle.state_sets.proofs.WordLaws.{out_in, out_or}
-use Rattle.transitions.specs.Places.{transition_limit}
 use Rattle.transitions.specs.Area.{leaves_of, nonterminal_of, first_of, entering_of}
 use Rattle.transitions.specs.Occurrences.{symbol_at}
 use Rattle.transitions.specs.Data.{Ordered, Holds}
 use Rattle.relations.specs.Path.{Path, Leads, States}
 use Rattle.relations.specs.Path.Path.{here, step}
-use Rattle.relations.specs.Steps.{Index}
+use Rattle.relations.specs.Steps.{Leaves}
+use Rattle.sets.specs.Words.{First, Next}
+use Rattle.std.specs.Prelude.{None}
 use Rattle.transitions.proofs.SymbolLaws.{symbol_is, symbol_high}
 use Rattle.relations.proofs.PathLaws.{path_end}
-use Rattle.cells.specs.Words.{Live, Next}
+use Rattle.cells.specs.Words.{Live}
 use Rattle.cells.proofs.WordLaws.{decided}
-use Rattle.lookaheads.specs.LooksBack.{LooksBack}
+use Rattle.lookaheads.specs.LooksBack.{LooksBack, Looks}
 use Rattle.lookaheads.specs.Joins.{Follows, Joins, Key, Keyed, Added, Candidates, Accepts}
 
 pub holds_none : {P : ℕ → Type 0} → ((m : ℕ) → P m → ⊥) → Holds 0 P
@@ -37,40 +36,27 @@ holds_none n = record { only = λ m h. absurd (has_none m h); all = λ m h. absu
 
 -- ---- one transition
 
-module _ (c w z : List ℕ) (k p x s i j : ℕ) (o : Ordered c w k) (e : j ≡ i) (at : Index w k p x i) where
+module _ (c w z : List ℕ) (k p x s i : ℕ) (at : Leaves w k p x i) where
   same : (m : ℕ) → (f : Follows w z k p x m) → f.transition ≡ i
-  same m f = at.all f.transition f.below f.leaves f.symbol
+  same m f = at.only f.transition f.below f.leaves f.symbol
 
-  pub joins_some : j < transition_limit → Joins w z k p x s (bit_or s (get_or z j 0))
-  joins_some h = record {
-    only = λ m g. ⊎_elim inl
-        (λ b. inr (record { transition = i; below = at.inside (omega arith); leaves = at.leaves (omega arith); symbol = at.symbol (omega arith); member = subst (λ (y : ℕ). bit (get_or z y 0) m ≡ true) e b }))
-        (has_or s (get_or z j 0) m g);
-    kept = λ m g. or_has_l s (get_or z j 0) m g;
-    all = λ m f. or_has_r s (get_or z j 0) m (subst (λ (y : ℕ). bit (get_or z y 0) m ≡ true) (same m f ∙ sym e) f.member);
-  }
-
-  pub joins_none : transition_limit ≤ j → Joins w z k p x s s
-  joins_none h = record {
-    only = λ m g. inl g;
-    kept = λ m g. g;
-    all = λ m f. absurd (omega (arith, same m f, f.below, o.few));
+  pub joins_some : Joins w z k p x s (bit_or s (get_or z i 0))
+  joins_some = record {
+    only = λ m g. ⊎_elim inl (λ b. inr (record { transition = i; below = at.inside; leaves = at.state; symbol = at.symbol; member = b })) (has_or s (get_or z i 0) m g);
+    kept = λ m g. or_has_l s (get_or z i 0) m g;
+    all = λ m f. or_has_r s (get_or z i 0) m (subst (λ (y : ℕ). bit (get_or z y 0) m ≡ true) (same m f) f.member);
   }
 
 -- ---- the states from which the right side leads to q, in turn
 
--- s has the sets of the transitions by the left side from the states that are not left
-pub record Looked (c w z : List ℕ) (k q r : ℕ) (left : List ℕ) (s : ℕ) : Type 0 where
-  pub sub : (p : ℕ) → p < 256 → item left p ≡ true → Leads c w r (length_of c r) q p
+-- s has the sets of the transitions by the left side from such states below `from`
+pub record Looked (c w z : List ℕ) (k q r from s : ℕ) : Type 0 where
   pub only : (m : ℕ) → bit s m ≡ true → LooksBack c w z k q r m
-  pub all : (p m : ℕ) → p < 256 → Leads c w r (length_of c r) q p → Follows w z k p (left_of c r) m → (item left p ≡ true) ⊎ (bit s m ≡ true)
+  pub all : (p m : ℕ) → p < from → Leads c w r (length_of c r) q p → Follows w z k p (left_of c r) m → bit s m ≡ true
 
 module _ (c w z : List ℕ) (k q r : ℕ) where
-  pub looked_none : (r' d : ℕ) (left : List ℕ) → r' ≡ r → d ≡ length_of c r → States left (Leads c w r' d q) → Looked c w z k q r left 0
-  looked_none r' d left e f t' = record { sub = t.only; only = λ m h. absurd (has_none m h); all = λ p m h l f. inl (t.all p h l) }
-    where
-      t : States left (Leads c w r (length_of c r) q)
-      t = subst (λ (y : ℕ). States left (Leads c w r y q)) f (subst (λ (y : ℕ). States left (Leads c w y d q)) e t')
+  pub looked_none : Looked c w z k q r 0 0
+  looked_none = record { only = λ m h. absurd (has_none m h); all = λ p m h. absurd (omega arith) }
 
   looks : (p m : ℕ) → Leads c w r (length_of c r) q p → Follows w z k p (left_of c r) m → LooksBack c w z k q r m
   looks p m l f = record {
@@ -91,30 +77,37 @@ module _ (c w z : List ℕ) (k q r : ℕ) where
       j : Joins w z k q (left_of c r) 0 s
       j = subst (λ (y : ℕ). Joins w z k q y 0 s) e j'
 
-  module _ (left : List ℕ) (s p : ℕ) (l : Looked c w z k q r left s) (low : Lowest left p) where
-    pub looked_more : (x : ℕ) (left' : List ℕ) (s' : ℕ) → x ≡ left_of c r → p < 256 → Joins w z k p x s s' → ((i : ℕ) → item left' i ≡ (item left i && not (eqb p i))) → Looked c w z k q r left' s'
-    looked_more x left' s' e h j' d = record {
-      sub = λ i g a. l.sub i g (out_in left left' p (low.here h) d i a);
-      only = λ m g. ⊎_elim (l.only m) (looks p m (l.sub p h (low.here h))) (j.only m g);
-      all = λ i m g y f.
+  -- `left` has the states from which the right side leads to q
+  module _ (r' d : ℕ) (left : List ℕ) (er : r' ≡ r) (ed : d ≡ length_of c r) (given : States left (Leads c w r' d q)) (from s : ℕ) (l : Looked c w z k q r from s) where
+    states : States left (Leads c w r (length_of c r) q)
+    states = subst (λ (y : ℕ). States left (Leads c w r y q)) ed (subst (λ (y : ℕ). States left (Leads c w y d q)) er given)
+
+    pub looked_more : (x p s' : ℕ) → x ≡ left_of c r → First left from p → p < 256 → Joins w z k p x s s' → Looked c w z k q r (p + 1) s'
+    looked_more x p s' e f h j' = record {
+      only = λ m g. ⊎_elim (l.only m) (looks p m (states.only p h f.here)) (j.only m g);
+      all = λ i m g y n.
           ⊎_elim
-          (λ a. ⊎_elim (λ (b : i ≡ p). inr (j.all m (subst (λ (a : ℕ). Follows w z k a (left_of c r) m) b f))) inl (out_or left left' p (low.here h) d i a))
-          (λ a. inr (j.kept m a))
-          (l.all i m g y f);
+          (λ (a : i < from). j.kept m (l.all i m a y n))
+          (λ (a : from ≤ i).
+          ⊎_elim
+          (λ (b : i < p). absurd (false≢true (sym (f.gap i a b) ∙ states.all i (omega arith) y)))
+          (λ (b : i ≡ p). j.all m (subst (λ (a : ℕ). Follows w z k a (left_of c r) m) b n))
+          (below_suc g))
+          (lt_or_ge i from);
     }
       where
         j : Joins w z k p (left_of c r) s s'
         j = subst (λ (y : ℕ). Joins w z k p y s s') e j'
 
-    pub looked_end : Ordered c w k → 256 ≤ p → Holds s (LooksBack c w z k q r)
-    looked_end o h = record {
+    pub looked_end : Ordered c w k → Next left from None → Holds s (LooksBack c w z k q r)
+    looked_end o none = record {
       only = l.only;
       all = λ m y.
           let b : leaves_of w y.transition < 256 = o.leaves y.transition y.below in
           ⊎_elim
-          (λ a. absurd (false≢true (sym (low.none (omega (arith, low.most)) (leaves_of w y.transition) b) ∙ a)))
-          (λ a. a)
-          (l.all (leaves_of w y.transition) m b y.leads (record { transition = y.transition; below = y.below; leaves = refl; symbol = y.left; member = y.follows }));
+          (λ a. l.all (leaves_of w y.transition) m a y.leads (record { transition = y.transition; below = y.below; leaves = refl; symbol = y.left; member = y.follows }))
+          (λ a. absurd (false≢true (sym (none (leaves_of w y.transition) a) ∙ states.all (leaves_of w y.transition) b y.leads)))
+          (lt_or_ge (leaves_of w y.transition) from);
     }
 
 -- ---- productions that are passed over
@@ -147,9 +140,6 @@ never_looks c w z k q r live s h f = holds_none (λ m y. false≢true (sym f ∙
 pub few : (c w : List ℕ) (k : ℕ) → Ordered c w k → productions c ≤ 128
 few c w k o = (well_formed c o.formed).limits.productions_to
 
-pub key_none : (c : List ℕ) (r d x v : ℕ) → d ≡ length_of c r → d ≡ 0 → x ≡ left_of c r → v ≡ x → Key c r (128 + v)
-key_none c r d x v ed e ex ev = record { none = λ h. ap (λ (y : ℕ). 128 + y) (ev ∙ ex); some = λ h. absurd (omega arith) }
-
 pub key_some : (c : List ℕ) (r d b v v' : ℕ) → d ≡ length_of c r → (d ≡ 0 → ⊥) → b ≡ start_of c r → v ≡ symbol_of c (b + (d - 1)) → v' ≡ v → Key c r v'
 key_some c r d b v v' ed n eb ev ev' = record {
   none = λ h. absurd (n (ed ∙ h));
@@ -170,6 +160,10 @@ key_below c r v f h a =
     (λ (g : length_of c r ≤ 0). let e = a.none (omega arith) in let s = (w.lefts r h).1 in omega arith)
     (lt_or_ge 0 (length_of c r))
 
+-- the place of its bit
+pub key_place : (c : List ℕ) (r v : ℕ) → form_fault c ≡ 0 → r < productions c → Key c r v → 128 * v + r < 32768
+key_place c r v f h a = omega (arith, key_below c r v f h a, (well_formed c f).limits.productions_to)
+
 pub keyed_more : (c s : List ℕ) (r v i : ℕ) → Key c r v → i ≡ 128 * v + r → i / 64 < length s → Keyed c s r → Keyed c (put s i) (r + 1)
 keyed_more c s r v i a e h old r' v' l b =
     item_put s i (128 * v' + r') h
@@ -186,10 +180,10 @@ module _ (keyed s : List ℕ) (v i : ℕ) (two : length s ≡ 2) (e : i ≡ 2 * 
   first = bit_or (get_or s 0 0) (get_or keyed i 0)
 
   second : ℕ
-  second = bit_or (get_or s 1 0) (get_or keyed (i + 1) 0)
+  second = bit_or (get_or (set s 0 (bit_or (get_or s 0 0) (get_or keyed i 0))) 1 0) (get_or keyed (i + 1) 0)
 
   after : List ℕ
-  after = set (set s 0 (bit_or (get_or s 0 0) (get_or keyed i 0))) 1 (bit_or (get_or s 1 0) (get_or keyed (i + 1) 0))
+  after = set (set s 0 (bit_or (get_or s 0 0) (get_or keyed i 0))) 1 (bit_or (get_or (set s 0 (bit_or (get_or s 0 0) (get_or keyed i 0))) 1 0) (get_or keyed (i + 1) 0))
 
   at : (h : ℕ) → h < 2 → get_or after h 0 ≡ bit_or (get_or s h 0) (get_or keyed (i + h) 0)
   unfolding after first second
@@ -197,13 +191,13 @@ module _ (keyed s : List ℕ) (v i : ℕ) (two : length s ≡ 2) (e : i ≡ 2 * 
       (λ (z : h ≡ 0). rw z
       (get_or-set_other (set s 0 first) 1 0 second 0 (λ x. omega arith) ∙ get_or-set_same s 0 first 0 (omega arith)
       ∙ ap (λ (y : ℕ). bit_or (get_or s 0 0) (get_or keyed y 0)) (let u : i ≡ i + 0 = omega arith in u)))
-      (λ (z : h ≡ 1). rw z (get_or-set_same (set s 0 first) 1 second 0 (omega (arith, length-set s 0 first))))
+      (λ (z : h ≡ 1). rw z (get_or-set_same (set s 0 first) 1 second 0 (omega (arith, length-set s 0 first)) ∙ ap (λ (y : ℕ). bit_or y (get_or keyed (i + 1) 0)) (get_or-set_other s 0 1 first 0 (λ x. omega arith))))
       (zero_or_one h l)
     where
       zero_or_one : (h : ℕ) → h < 2 → (h ≡ 0) ⊎ (h ≡ 1)
       zero_or_one h l = ⊎_elim (λ (g : h < 1). inl (omega arith)) (λ (g : 1 ≤ h). inr (omega arith)) (lt_or_ge h 1)
 
-  pub added_some : (t : List ℕ) → t ≡ set (set s 0 (bit_or (get_or s 0 0) (get_or keyed i 0))) 1 (bit_or (get_or s 1 0) (get_or keyed (i + 1) 0)) → Added keyed v s t
+  pub added_some : (t : List ℕ) → t ≡ set (set s 0 (bit_or (get_or s 0 0) (get_or keyed i 0))) 1 (bit_or (get_or (set s 0 (bit_or (get_or s 0 0) (get_or keyed i 0))) 1 0) (get_or keyed (i + 1) 0)) → Added keyed v s t
   unfolding after item
   added_some t et r l x =
       ap (λ (y : List ℕ). bit (get_or y (r / 64) 0) (r % 64)) et ∙ ap (λ (y : ℕ). bit y (r % 64)) (at (r / 64) (omega arith))
@@ -221,27 +215,6 @@ pub record Gathered (w keyed : List ℕ) (q i : ℕ) (s : List ℕ) : Type 0 whe
   pub from : first_of w q ≤ i
   pub ending : (r : ℕ) → r < 128 → entering_of w q < 256 → item keyed (128 * entering_of w q + r) ≡ true → item s r ≡ true
   pub empty : (r j : ℕ) → r < 128 → first_of w q ≤ j → j < i → 128 + nonterminal_of w j < 256 → item keyed (128 * (128 + nonterminal_of w j) + r) ≡ true → item s r ≡ true
-
-module _ (w keyed : List ℕ) (q i x : ℕ) where
-  pub gathered_none : (s₀ s : List ℕ) → i ≡ first_of w q → x ≡ entering_of w q → Added keyed x s₀ s → Gathered w keyed q i s
-  gathered_none s₀ s e ex a = record {
-    from = omega arith;
-    ending = λ r h b g. a r h (inr (omega arith, subst (λ (y : ℕ). item keyed (128 * y + r) ≡ true) (sym ex) g));
-    empty = λ r j h l m. absurd (omega arith);
-  }
-
-  pub gathered_more : (s t : List ℕ) → x ≡ nonterminal_of w i → Gathered w keyed q i s → Added keyed (128 + x) s t → Gathered w keyed q (i + 1) t
-  gathered_more s t ex g a = record {
-    from = omega (arith, g.from);
-    ending = λ r h b y. a r h (inl (g.ending r h b y));
-    empty = λ r j h l m b y.
-        ⊎_elim
-        (λ (z : j < i). a r h (inl (g.empty r j h l z b y)))
-        (λ (z : j ≡ i).
-        let u : nonterminal_of w j ≡ x = ap (nonterminal_of w) z ∙ sym ex in
-        a r h (inr (omega arith, subst (λ (u : ℕ). item keyed (128 * (128 + u) + r) ≡ true) u y)))
-        (below_suc m);
-  }
 
 pub gathered_end : (c w keyed : List ℕ) (k q i end : ℕ) (s : List ℕ) → Ordered c w k → Keyed c keyed (productions c) → end ≡ first_of w (q + 1) → end ≤ i → Gathered w keyed q i s → Candidates c w k q s
 gathered_end c w keyed k q i end s o kept e le g = record {
@@ -265,30 +238,31 @@ live_none n live = record { none = λ r h. zeros r; beyond = λ r h. zeros r }
     zeros : (r : ℕ) → ◌≡◌ {A = ℕ} (get_or (replicate 128 0) r 0) 0
     zeros r = ⊎_elim (λ h. get_or-replicate 128 r 0 0 h) (λ h. get_or-eq_default (replicate 128 0) 0 {n = r} (omega (arith, length-replicate {A = ℕ} 128 0))) (lt_or_ge r 128)
 
--- the word of production r, one of n, is stored, and r' is the next production in the set
-module _ (live s : List ℕ) (n r v : ℕ) (here : item live r ≡ true) (h : r < n) where
+-- the word of production r, one of n and the first in the set from `from` on, is stored
+module _ (live s : List ℕ) (n from r v : ℕ) (f : First live from r) (h : r < n) where
   pub live_more : Live n s live → Live n (set s r v) live
   live_more l = record {
-    none = λ i e. get_or-set_other s r i v 0 (λ x. true≢false (sym here ∙ ap (item live) (sym x) ∙ e)) ∙ l.none i e;
+    none = λ i e. get_or-set_other s r i v 0 (λ x. true≢false (sym f.here ∙ ap (item live) (sym x) ∙ e)) ∙ l.none i e;
     beyond = λ i e. get_or-set_other s r i v 0 (λ x. omega arith) ∙ l.beyond i e;
   }
 
-  pub stored : (P : ℕ → ℕ → Type 0) (r' : ℕ) → r < length s → P r v → Next live (r + 1) r' → ((i : ℕ) → i < r → item live i ≡ true → P i (get_or s i 0)) → (i : ℕ) → i < r' → item live i ≡ true → P i (get_or (set s r v) i 0)
-  stored P r' fits p x old i l y =
+  pub stored : (P : ℕ → ℕ → Type 0) → r < length s → P r v → ((i : ℕ) → i < from → item live i ≡ true → P i (get_or s i 0)) → (i : ℕ) → i < r + 1 → item live i ≡ true → P i (get_or (set s r v) i 0)
+  stored P fits p old i l y =
       ⊎_elim
-      (λ (a : i < r + 1).
+      (λ (a : i < r).
       ⊎_elim
-      (λ (a : i < r). subst (P i) (sym (get_or-set_other s r i v 0 (λ e. omega arith))) (old i a y))
+      (λ (b : i < from). subst (P i) (sym (get_or-set_other s r i v 0 (λ e. omega arith))) (old i b y))
+      (λ (b : from ≤ i). absurd (true≢false (sym y ∙ f.gap i b a)))
+      (lt_or_ge i from))
       (λ (a : i ≡ r). subst (λ (y : ℕ). P y (get_or (set s r v) y 0)) (sym a) (subst (P r) (sym (get_or-set_same s r v 0 fits)) p))
-      (below_suc a))
-      (λ (a : r + 1 ≤ i). absurd (true≢false (sym y ∙ x.gap i a l)))
-      (lt_or_ge i (r + 1))
+      (below_suc l)
 
--- the words of all productions
-pub words_all : (c w z : List ℕ) (k q r n : ℕ) (live s : List ℕ) → n ≡ productions c → n ≤ r → Candidates c w k q live → Live n s live → ((i : ℕ) → i < r → item live i ≡ true → Holds (get_or s i 0) (LooksBack c w z k q i))
-    → (i : ℕ) → i < productions c → Holds (get_or s i 0) (LooksBack c w z k q i)
-words_all c w z k q r n live s e h cs l done i b =
-    ⊎_elim (λ t. done i (omega arith) t) (λ f. subst (λ (y : ℕ). Holds y (LooksBack c w z k q i)) (sym (l.none i f)) (never_looks c w z k q i live cs b f)) (decided (item live i))
+-- the words of all productions: none of them from `from` on is in the set
+pub words_all : (c w z : List ℕ) (k q from : ℕ) (live s : List ℕ) → Candidates c w k q live → Live (productions c) s live → ((i : ℕ) → from ≤ i → i < productions c → item live i ≡ false)
+    → ((i : ℕ) → i < from → item live i ≡ true → Holds (get_or s i 0) (LooksBack c w z k q i)) → Looks c w z k q s
+words_all c w z k q from live s cs l rest done i b =
+    ⊎_elim (λ t. ⊎_elim (λ a. done i a t) (λ a. absurd (true≢false (sym t ∙ rest i a b))) (lt_or_ge i from))
+    (λ f. subst (λ (y : ℕ). Holds y (LooksBack c w z k q i)) (sym (l.none i f)) (never_looks c w z k q i live cs b f)) (decided (item live i))
 
 -- ---- acceptance
 

@@ -1,8 +1,8 @@
 -- Rows of cells: what the words of a state say of its numbers, and the rows written so far.
 use Prim.Native.Nat.{ℕ, ◌+◌, ◌-◌, ◌≤◌, ◌<◌}
 use mathlib.Core.Path.{◌≡◌, refl, sym, ap, ◌∙◌, subst}
-use mathlib.Core.Bool.{Bool, true, false, true≢false}
-use mathlib.Core.Logic.{◌↔◌, ◌≢◌, ◌⊎◌, ⊎_elim}
+use mathlib.Core.Bool.{true}
+use mathlib.Core.Logic.{◌↔◌, ◌≢◌, ⊎_elim}
 use mathlib.Core.List.{List, []}
 use native.Mathlib.Omega.{arith}
 use native.Mathlib.Decide.{ℕ_discrete}
@@ -10,7 +10,6 @@ use lib.ListN.{length, get_or, set}
 use lib.Seq.{get_or-set_same, get_or-set_other}
 use borrow.Author.Tests.{lt-ltb}
 use Rattle.sets.specs.Bit.{bit}
-use Rattle.sets.proofs.BitLaws.{bit_zero}
 use Rattle.sets.proofs.HasLaws.{lt_or_ge, below_suc}
 use Rattle.grammar.specs.Card.{terminals, nonterminals, productions}
 use Rattle.grammar.proofs.CardLaws.{well_formed}
@@ -23,15 +22,13 @@ use Rattle.transitions.specs.Data.{Ordered, Holds, Shifts}
 use Rattle.tables.specs.Conflicts.{Single, Lowest, Before, lower_state, lower_symbol}
 use Rattle.cells.specs.Actions.{Act, IsCell}
 use Rattle.cells.specs.Words.{Numbers, Two, Written, Row}
-use Rattle.sets.specs.Lists.{covered}
-use Rattle.cells.specs.Areas.{table_area}
 use Rattle.cells.proofs.WordLaws.{written_cell}
 use Rattle.cells.proofs.AreaLaws.{covered_same, tabled}
-use Rattle.lookaheads.specs.LooksBack.{LooksBack}
+use Rattle.lookaheads.specs.LooksBack.{LooksBack, Looks}
 use Rattle.lookaheads.specs.Joins.{Accepts}
-use Rattle.lookaheads.specs.Outcome.{Stage, Stands, Rows, Named, Answer, Searched, Closed, Outcome}
-use Rattle.lookaheads.specs.declared.Clash.{Clash}
-use Rattle.lookaheads.specs.declared.Clash.TheVariants.{Free, At}
+use Rattle.lookaheads.specs.Outcome.{Stage, Stands, Rows, Met, Named, Searched, Closed, Outcome}
+use Rattle.lookaheads.specs.declared.Conflict.{Conflict}
+use Rattle.std.specs.Prelude.{Some, None, Result, Ok, Err}
 use Rattle.lookaheads.proofs.LookLaws.{accepts_zero, accepts_other, accepts_one}
 
 -- ---- places
@@ -130,8 +127,8 @@ module _ (c w z : List ℕ) (n k : ℕ) (next : ℕ → ℕ → ℕ) (numbered :
     pub meet_two : bit meet m ≡ true → Two (Act c next (LooksBack c w z k q) q m)
     meet_two h = two_same numbers_act act_numbers (meets.0 h)
 
-    pub meet_single : bit meet m ≡ false → Single (Numbers (productions c) (next q m) found accept m)
-    meet_single h = single (λ t. true≢false (sym (meets.1 t) ∙ h))
+    pub meet_single : (bit meet m ≡ true → ⊥) → Single (Numbers (productions c) (next q m) found accept m)
+    meet_single h = single (λ t. h (meets.1 t))
 
   -- the two lowest
   lowest_act : (v u : ℕ) → ((a : ℕ) → next q m < 1024 → Two (Numbers (productions c) (next q m) found a m) → Lowest (Numbers (productions c) (next q m) found a m) v u)
@@ -141,13 +138,12 @@ module _ (c w z : List ℕ) (n k : ℕ) (next : ℕ → ℕ → ℕ) (numbered :
 pub conflict_named : (c w z : List ℕ) (n k : ℕ) (next : ℕ → ℕ → ℕ) (q q' m m' p s : ℕ) (found : List ℕ) (v u : ℕ) → Numbered c n next → m < terminals c → q' ≡ q → m' ≡ m → p ≡ productions c → s ≡ next q m
     → ((r : ℕ) → r < productions c → Holds (get_or found r 0) (LooksBack c w z k q' r))
     → ((a : ℕ) → s < 1024 → Two (Numbers p s found a m') → Lowest (Numbers p s found a m') v u)
-    → Two (Act c next (LooksBack c w z k q) q m) → Named (Act c next (LooksBack c w z k q) q m) q m (At q m v u)
+    → Two (Act c next (LooksBack c w z k q) q m) → Named (Act c next (LooksBack c w z k q) q m) q m (record { state = q; terminal = m; lower = v; upper = u })
 conflict_named c w z n k next q q' m m' p s found v u numbered below eq em ep es looks lowest t =
     let a = accept_word (next 0 (terminals c)) q in
     record {
-      lower = v;
-      upper = u;
-      answer = refl;
+      state = refl;
+      terminal = refl;
       numbers =
           lowest_act c w z n k next numbered q m below found a.0 (subst (λ (x : ℕ). (r : ℕ) → r < productions c → Holds (get_or found r 0) (LooksBack c w z k x r)) eq looks) a.1 v u
           (rw (em, ep, es) at lowest) t;
@@ -166,7 +162,7 @@ written_kept p s found accept m v f g x = go x
 
 -- what is known of the words of state q: its lookaheads, where it accepts, what it shifts, and where two numbers meet
 pub record Known (c t₀ w z : List ℕ) (n k q : ℕ) (found : List ℕ) (accept shifts meet : ℕ) : Type 0 where
-  pub looks : (r : ℕ) → r < productions c → Holds (get_or found r 0) (LooksBack c w z k q r)
+  pub looks : Looks c w z k q found
   pub accepting : Holds accept (Accepts (next_of c t₀ n 0 (terminals c)) q)
   pub shifting : Holds shifts (Shifts c (next_of c t₀ n) q)
   pub meeting : (i s : ℕ) → s < 1024 → (bit shifts i ≡ true) ↔ (s ≢ 0) → (bit meet i ≡ true) ↔ Two (Numbers (productions c) s found accept i)
@@ -178,25 +174,9 @@ pub record Crossed (A : ℕ → ℕ → ℕ → Type 0) (count terminals q m : �
   pub two : Two (A q m)
   pub before : (q' m' : ℕ) → q' < count → m' < terminals → Before q' m' q m → Single (A q' m')
 
--- the word has no terminal below m
-abbrev pub Clear : ℕ → ℕ → Type 0
-Clear meet m = (i : ℕ) → i < m → bit meet i ≡ false
-
-pub clear_zero : (meet m : ℕ) → meet ≡ 0 → Clear meet m
-clear_zero meet m e i l = rw e (bit_zero i)
-
-pub clear_below : (meet m x : ℕ) → x ≤ m → Clear meet m → Clear meet x
-clear_below meet m x h none i l = none i (omega arith)
-
-pub clear_more : (meet m m' : ℕ) (b : Bool) → m' ≡ m → b ≡ bit meet m' → b ≡ false → Clear meet m → Clear meet (m + 1)
-clear_more meet m m' b e f g h i l = ⊎_elim (h i) (λ (d : i ≡ m). ap (bit meet) (d ∙ sym e) ∙ sym f ∙ g) (below_suc l)
-
 module _ (c t₀ w z : List ℕ) (n k : ℕ) (stage : Stage c t₀ w z n) (o : Ordered c w k) where
   abbrev next : ℕ → ℕ → ℕ
   next = next_of c t₀ n
-
-  pub rows_none : Rows c (Stands c t₀ w z n k) 0 t₀ t₀
-  rows_none = record { long = refl; cells = λ p m h. absurd (omega arith); others = λ p x h. absurd (omega arith); behind = λ i h. refl }
 
   -- the lookaheads are terminals
   looks_below : (q r m : ℕ) → LooksBack c w z k q r m → m < terminals c
@@ -226,10 +206,10 @@ module _ (c t₀ w z : List ℕ) (n k : ℕ) (stage : Stage c t₀ w z n) (o : O
       from : (m : ℕ) → m < terminals c → (v : ℕ) → Stands c t₀ w z n k q m v → Numbers (productions c) (next q m) found accept m v
       from m h = act_numbers c w z n k next stage.numbered q m h found accept is.looks is.accepting
 
-      one : (m : ℕ) → m < terminals c → bit meet m ≡ false → Single (Numbers (productions c) (next q m) found accept m)
+      one : (m : ℕ) → m < terminals c → (bit meet m ≡ true → ⊥) → Single (Numbers (productions c) (next q m) found accept m)
       one m h = meet_single c w z n k next stage.numbered q m h found accept is.looks is.accepting shifts meet is.shifting is.meeting
 
-      module _ (t' : List ℕ) (none : Clear meet (terminals c)) (r : Row (row_of c q) (productions c) found accept t t') where
+      module _ (t' : List ℕ) (none : Met meet (terminals c) None) (r : Row (row_of c q) (productions c) found accept t t') where
         low : (m : ℕ) → m < terminals c → IsCell (Stands c t₀ w z n k q m) (get_or t' (row_of c q + m) 0)
         low m h =
             cell_same (to m h) (from m h) (get_or t' (row_of c q + m) 0)
@@ -262,23 +242,20 @@ module _ (c t₀ w z : List ℕ) (n k : ℕ) (stage : Stage c t₀ w z n) (o : O
         }
 
       -- one row more
-      pub rows_more : (b p : ℕ) (t' : List ℕ) → b ≡ row_of c q → p ≡ productions c → Clear meet (terminals c) → Row b p found accept t t' → Rows c (Stands c t₀ w z n k) (q + 1) t₀ t'
+      pub rows_more : (b p : ℕ) (t' : List ℕ) → b ≡ row_of c q → p ≡ productions c → Met meet (terminals c) None → Row b p found accept t t' → Rows c (Stands c t₀ w z n k) (q + 1) t₀ t'
       rows_more b p t' eb ep none r = rows_one t' none (rw (eb, ep) at r)
 
       -- the first cell where two meet
-      pub crossed : (m m' x : ℕ) (b : Bool) → m < x → x ≡ terminals c → m' ≡ m → b ≡ bit meet m' → b ≡ true → Clear meet m → Crossed (Stands c t₀ w z n k) n (terminals c) q m
-      crossed m m' x b h ex em eb e none = record {
+      pub crossed : (m : ℕ) → Met meet (terminals c) (Some m) → Crossed (Stands c t₀ w z n k) n (terminals c) q m
+      crossed m least = record {
         state = hq;
-        terminal = below;
-        two = meet_two c w z n k next stage.numbered q m below found accept is.looks is.accepting shifts meet is.shifting is.meeting (ap (bit meet) (sym em) ∙ sym eb ∙ e);
+        terminal = least.0;
+        two = meet_two c w z n k next stage.numbered q m least.0 found accept is.looks is.accepting shifts meet is.shifting is.meeting least.1;
         before = λ p i hp hi y. go p i hi y;
       }
         where
-          below : m < terminals c
-          below = omega arith
-
           row : (i : ℕ) → i < terminals c → i < m → Single (Stands c t₀ w z n k q i)
-          row i hi l = let y = one i hi (none i l) in record { only = λ v u a d. y.only v u (from i hi v a) (from i hi u d) }
+          row i hi l = let y = one i hi (least.2 i l) in record { only = λ v u a d. y.only v u (from i hi v a) (from i hi u d) }
 
           go : (p i : ℕ) → i < terminals c → Before p i q m → Single (Stands c t₀ w z n k p i)
           go p i hi (lower_state l) = cell_single (get_or t (row_of c p + i) 0) (done.cells p i l hi)
@@ -289,18 +266,16 @@ module _ (c t₀ w z : List ℕ) (n k : ℕ) (stage : Stage c t₀ w z n) (o : O
   beyond : (q : ℕ) (t : List ℕ) → q ≤ n → Rows c (Stands c t₀ w z n k) q t₀ t → (i : ℕ) → table_size ≤ i → get_or t i 0 ≡ get_or t₀ i 0
   beyond q t h done i l = done.behind i (omega (arith, row_fits c w k o q (omega (arith, stage.numbered.most))))
 
-  pub searched_met : (q m : ℕ) (t : List ℕ) (r : Clash) → Rows c (Stands c t₀ w z n k) q t₀ t → Crossed (Stands c t₀ w z n k) n (terminals c) q m → Named (Stands c t₀ w z n k q m) q m r
-      → Searched c (Stands c t₀ w z n k) n t₀ t r
+  pub searched_met : (q m : ℕ) (t : List ℕ) (r : Conflict) → Rows c (Stands c t₀ w z n k) q t₀ t → Crossed (Stands c t₀ w z n k) n (terminals c) q m → Named (Stands c t₀ w z n k q m) q m r
+      → Searched c (Stands c t₀ w z n k) n t₀ t (Err r)
   searched_met q m t r done x y = record {
-    answer =
-        subst (Answer c (Stands c t₀ w z n k) n t₀ t) (sym y.answer)
-        (record { state = x.state; terminal = x.terminal; numbers = y.numbers; before = x.before });
+    answer = rw (y.state, y.terminal) (record { state = x.state; terminal = x.terminal; numbers = y.numbers; before = x.before });
     long = done.long;
     beyond = beyond q t (omega (arith, x.state)) done;
   }
 
-  pub searched_free : (q : ℕ) (t : List ℕ) → q ≤ n → n ≤ q → Rows c (Stands c t₀ w z n k) q t₀ t → Searched c (Stands c t₀ w z n k) n t₀ t Free
-  searched_free q t h l done =
+  pub searched_free : (q : ℕ) (t : List ℕ) (u : Unit {0}) → q ≤ n → n ≤ q → Rows c (Stands c t₀ w z n k) q t₀ t → Searched c (Stands c t₀ w z n k) n t₀ t (Ok u)
+  searched_free q t u h l done =
       let e : q ≡ n = omega arith in
       record { answer = subst (λ (x : ℕ). Rows c (Stands c t₀ w z n k) x t₀ t) e done; long = done.long; beyond = beyond q t h done }
 
@@ -308,15 +283,10 @@ module _ (c t₀ w z : List ℕ) (n k : ℕ) (stage : Stage c t₀ w z n) (o : O
   pub size_fits : row_of c n + n ≤ table_size
   size_fits = rows_fit c (well_formed c o.formed) n stage.numbered.most
 
-  -- the rows, then all that belongs to the table
-  outcome_free : (e t t' : List ℕ) → ((q : ℕ) → q < n → get_or e q 0 ≡ entering_of w q) → Searched c (Stands c t₀ w z n k) n t₀ t Free → t' ≡ table_area c n e t
-      → Outcome c (next_of c t₀ n) (Stands c t₀ w z n k) (entering_of w) n t₀ t' Free
-  outcome_free e t t' entries s f =
+  -- the rows, then all that belongs to the table; or zeros
+  pub outcome_is : (e t t' : List ℕ) (r : Result (Unit {0}) Conflict) → ((q : ℕ) → q < n → get_or e q 0 ≡ entering_of w q) → Searched c (Stands c t₀ w z n k) n t₀ t r → Closed c e n t t' r
+      → Outcome c (next_of c t₀ n) (Stands c t₀ w z n k) (entering_of w) n t₀ t' r
+  outcome_is e t t' (Ok u) entries s f =
       let done : Rows c (Stands c t₀ w z n k) n t₀ t = s.answer in
       tabled c n (next_of c t₀ n) (Stands c t₀ w z n k) (entering_of w) e t₀ t t' s.long s.beyond entries done.cells (λ q x h l b. done.others q x h l b ∙ next_cell c t₀ n q x h b) f
-
-  -- or zeros
-  pub outcome_is : (e t t' : List ℕ) (r : Clash) → ((q : ℕ) → q < n → get_or e q 0 ≡ entering_of w q) → Searched c (Stands c t₀ w z n k) n t₀ t r → Closed c e n t t' r
-      → Outcome c (next_of c t₀ n) (Stands c t₀ w z n k) (entering_of w) n t₀ t' r
-  outcome_is e t t' Free entries s f = outcome_free e t t' entries s f
-  outcome_is e t t' (At q m v u) entries s f = (s.answer, f ∙ covered_same table_size [] t₀ t s.long s.beyond)
+  outcome_is e t t' (Err r) entries s f = (s.answer, f ∙ covered_same table_size [] t₀ t s.long s.beyond)

@@ -11,20 +11,19 @@ ghost use Rattle.transitions.specs.Next.{Numbered};
 ghost use Rattle.transitions.specs.Data.{Ordered, Holds};
 ghost use Rattle.cells.specs.Actions.{Act};
 ghost use Rattle.cells.specs.Words.{Two, Live};
-ghost use Rattle.lookaheads.specs.LooksBack.{LooksBack};
+ghost use Rattle.lookaheads.specs.LooksBack.{LooksBack, Looks};
 ghost use Rattle.lookaheads.specs.Joins.{Joins, Key, Keyed, Added, Candidates, Accepts};
-ghost use Rattle.lookaheads.specs.Outcome.{Stage, Stands, Named, Searched, Closed, Filled};
+ghost use Rattle.lookaheads.specs.Outcome.{Stage, Stands, Named, Searched, Closed, Filled, Met};
 
 // s and the set of the transition from state p by the nonterminal x, where there is one.
 fn join(w: &[u32], z: &[u64], p: u32, x: u32, s: u64) -> u64
-    requires { (p < 256) × (transition_limit ≤ length z.now) }
+    requires { ((c : List ℕ) × (k : ℕ) × Ordered c w.now k) × (p < 256) × (transition_limit ≤ length z.now) }
     ensures { (c : List ℕ) (k : ℕ) → Ordered c w.now k → Joins w.now z.now k p x s result }
 {
-    let i = card::wide32(relations::index(w, p, x));
-    if i < transitions::LIMIT as usize {
-        return s | z[i];
+    match relations::index(w, p, x) {
+        Some(i) => s | z[i as usize],
+        None => s,
     }
-    s
 }
 
 // The lookaheads of production r in state q.
@@ -32,19 +31,17 @@ fn lookahead(c: &[u16], w: &[u32], z: &[u64], q: u32, r: u16) -> u64
     requires { ((k : ℕ) × Ordered c.now w.now k) × (q < 256) × (r < productions c.now) × (transition_limit ≤ length z.now) }
     ensures { (k : ℕ) → Ordered c.now w.now k → Holds result (LooksBack c.now w.now z.now k q r) }
 {
-    let x = card::wider(card::left(c, r));
-    let d = card::wider(card::length(c, r));
+    let x = u32::from(card::left(c, r));
+    let d = u32::from(card::length(c, r));
     if d == 0 {
         return join(w, z, q, x, 0);
     }
-    let mut left = relations::back(c, w, q, card::wider(r), d);
-    let mut s: u64 = 0;
-    let mut p = state_sets::lowest(left);
-    while p < 256 {
-        s = join(w, z, p, x, s);
-        let rest = state_sets::without(left, p);
-        left = rest;
-        p = state_sets::lowest(rest);
+    let left = relations::back(c, w, q, u32::from(r), d);
+    let mut s = 0;
+    let mut from = 0;
+    while let Some(p) = sets::words::next(left, from) {
+        s = join(w, z, p as u32, x, s);
+        from = p + 1;
     }
     s
 }
@@ -55,9 +52,10 @@ fn key(c: &[u16], r: u16, b: u32, d: u32) -> u32
     ensures { b ≡ start_of c.now r → d ≡ length_of c.now r → Key c.now r result }
 {
     if d == 0 {
-        return 128 + card::wider(card::left(c, r));
+        128 + u32::from(card::left(c, r))
+    } else {
+        u32::from(card::symbol(c, b + (d - 1)))
     }
-    card::wider(card::symbol(c, b + (d - 1)))
 }
 
 // All productions, each under its key: two words to a key.
@@ -65,16 +63,13 @@ fn keys(c: &[u16]) -> [u64; 512]
     requires { form_fault c.now ≡ 0 }
     ensures { Keyed c.now result (productions c.now) }
 {
-    let n = card::productions(c);
     let mut s = [0u64; 512];
-    let mut b: u32 = 0;
-    let mut r: u16 = 0;
-    while r < n {
-        let d = card::wider(card::length(c, r));
-        let i = 128 * card::wide32(key(c, r, b, d)) + card::wide(r);
-        s[i / 64] = s[i / 64] | (1 << (i % 64));
+    let mut b = 0;
+    for r in 0..card::productions(c) {
+        let d = u32::from(card::length(c, r));
+        let i = 128 * key(c, r, b, d) as usize + usize::from(r);
+        s[i / 64] |= 1 << (i % 64);
         b += d;
-        r += 1;
     }
     s
 }
@@ -85,9 +80,9 @@ fn add(s: [u64; 2], keyed: &[u64; 512], v: u32) -> [u64; 2]
 {
     let mut t = s;
     if v < 256 {
-        let i = 2 * card::wide32(v);
-        t[0] = s[0] | keyed[i];
-        t[1] = s[1] | keyed[i + 1];
+        let i = 2 * v as usize;
+        t[0] |= keyed[i];
+        t[1] |= keyed[i + 1];
     }
     t
 }
@@ -98,13 +93,10 @@ fn candidates(w: &[u32], keyed: &[u64; 512], q: u32) -> [u64; 2]
     requires { ((c : List ℕ) × (k : ℕ) × Ordered c w.now k) × (q < 256) }
     ensures { (c : List ℕ) (k : ℕ) → Ordered c w.now k → Keyed c keyed.now (productions c) → Candidates c w.now k q result }
 {
-    let end = transitions::first(w, q + 1);
-    let mut i = transitions::first(w, q);
-    let mut s = add([0u64; 2], keyed, transitions::entering(w, q));
-    while i < end {
+    let mut s = add([0; 2], keyed, transitions::entering(w, q));
+    for i in transitions::first(w, q)..transitions::first(w, q + 1) {
         let more = add(s, keyed, 128 + transitions::nonterminal(w, i));
         s = more;
-        i += 1;
     }
     s
 }
@@ -113,14 +105,17 @@ fn candidates(w: &[u32], keyed: &[u64; 512], q: u32) -> [u64; 2]
 fn words(c: &[u16], w: &[u32], z: &[u64], live: [u64; 2], q: u32) -> [u64; 128]
     requires { ((k : ℕ) × Ordered c.now w.now k) × (q < 256) × (transition_limit ≤ length z.now) × ((k : ℕ) → Ordered c.now w.now k → Candidates c.now w.now k q live) }
     ensures { Live (productions c.now) result live
-        × ((k : ℕ) → Ordered c.now w.now k → (r : ℕ) → r < productions c.now → Holds (get_or result r 0) (LooksBack c.now w.now z.now k q r)) }
+        × ((k : ℕ) → Ordered c.now w.now k → Looks c.now w.now z.now k q result) }
 {
-    let n = card::wide(card::productions(c));
+    let n = usize::from(card::productions(c));
     let mut s = [0u64; 128];
-    let mut r = cells::next(live, 0);
-    while r < n {
+    let mut from = 0;
+    while let Some(r) = sets::words::next(live, from) {
+        if n <= r {
+            return s;
+        }
         s[r] = lookahead(c, w, z, q, r as u16);
-        r = cells::next(live, r + 1);
+        from = r + 1;
     }
     s
 }
@@ -130,12 +125,12 @@ fn acceptance(a: u16, q: u16) -> u64
     ensures { Holds result (Accepts a q) }
 {
     if q == 0 {
-        return 0;
+        0
+    } else if a == q {
+        1
+    } else {
+        0
     }
-    if a == q {
-        return 1;
-    }
-    0
 }
 
 // The state that the start leads to from state 0.
@@ -143,7 +138,7 @@ fn target(c: &[u16], t: &[u16]) -> u16
     requires { row_of c.now 0 ≤ table_size }
     ensures { result ≡ get_or t.now (row_of c.now 0 + terminals c.now) 0 }
 {
-    card::at(t, areas::row(c, 0) + card::wide(card::terminals(c)))
+    card::at(t, areas::row(c, 0) + usize::from(card::terminals(c)))
 }
 
 // The terminals that state q shifts.
@@ -151,66 +146,70 @@ fn shifts(z: &[u64], q: u16) -> u64
     requires { shifts_at + q < length z.now }
     ensures { result ≡ get_or z.now (shifts_at + q) 0 }
 {
-    z[transitions::SHIFTS_AT + card::wide(q)]
+    z[transitions::SHIFTS_AT + usize::from(q)]
 }
 
-// No cell where two actions meet; or the first one: state, terminal and the two lowest numbers.
+// A cell where two actions meet, and the two lowest numbers there.
 #[derive(Clone, Copy)]
-pub enum Clash {
-    Free,
-    At(u16, u16, u16, u16),
+pub struct Conflict {
+    pub state: u16,
+    pub terminal: u16,
+    pub lower: u16,
+    pub upper: u16,
 }
 
-// The two lowest numbers at state q and terminal m, where two meet.
-fn conflict(c: &[u16], t: &[u16], w: &[u32], z: &[u64], keyed: &[u64; 512], q: u16, m: u16) -> Clash
-    requires { ((k : ℕ) × Ordered c.now w.now k) × (q < 256) × (transition_limit ≤ length z.now) × Keyed c.now keyed.now (productions c.now) × (row_of c.now q ≤ table_size) }
-    ensures { (n k : ℕ) (next : ℕ → ℕ → ℕ) → Ordered c.now w.now k → Numbered c.now n next → m < terminals c.now
-        → get_or t.now (row_of c.now q + m) 0 ≡ next q m → Two (Act c.now next (LooksBack c.now w.now z.now k q) q m)
-        → Named (Act c.now next (LooksBack c.now w.now z.now k q) q m) q m result }
+// The two lowest numbers at state q, of which these lookaheads are found, and terminal m, where two meet.
+fn conflict_at(c: &[u16], t: &[u16], found: &[u64; 128], q: u16, m: u16) -> Conflict
+    requires { (productions c.now ≤ 128) × (row_of c.now q ≤ table_size) }
+    ensures { (w z : List ℕ) (n k : ℕ) (next : ℕ → ℕ → ℕ) → Numbered c.now n next → Looks c.now w z k q found.now → m < terminals c.now
+        → get_or t.now (row_of c.now q + m) 0 ≡ next q m → Two (Act c.now next (LooksBack c.now w z k q) q m)
+        → Named (Act c.now next (LooksBack c.now w z k q) q m) q m result }
 {
-    let p = card::wide(card::productions(c));
-    let state = card::wider(q);
-    let live = candidates(w, keyed, state);
-    let found = words(c, w, z, live, state);
-    let s = card::at(t, areas::row(c, card::wide(q)) + card::wide(m));
-    let met = cells::pair(p, s, &found, card::wider(m));
-    let v = met.lower;
-    let u = met.upper;
-    Clash::At(q, m, v, u)
+    let p = usize::from(card::productions(c));
+    let s = card::at(t, areas::row(c, usize::from(q)) + usize::from(m));
+    let met = cells::pair(p, s, found, u32::from(m));
+    Conflict {
+        state: q,
+        terminal: m,
+        lower: met.lower,
+        upper: met.upper,
+    }
 }
 
-// Writes the reductions and the acceptance of all states, up to the first cell where two actions meet.
-fn rows(c: &[u16], t: &mut [u16], w: &[u32], z: &[u64], keyed: &[u64; 512], n: u16) -> Clash
+// Writes the reductions and the acceptance of all states, or up to the row of the first cell where two actions meet.
+fn rows(
+    c: &[u16],
+    t: &mut [u16],
+    w: &[u32],
+    z: &[u64],
+    keyed: &[u64; 512],
+    n: u16,
+) -> Result<(), Conflict>
     requires { Stage c.now t.old w.now z.now n × Keyed c.now keyed.now (productions c.now) }
     ensures { (k : ℕ) → Ordered c.now w.now k → Searched c.now (Stands c.now t.old w.now z.now n k) n t.old t.new result }
 {
     let terminals = card::terminals(c);
-    let p = card::wide(card::productions(c));
+    let p = usize::from(card::productions(c));
     let a = target(c, t);
-    let mut q: u16 = 0;
-    let mut m: u16 = 0;
-    'states: while q < n {
-        let state = card::wider(q);
-        let live = candidates(w, keyed, state);
-        let found = words(c, w, z, live, state);
-        let accept = acceptance(a, q);
-        let meet = cells::meeting(p, shifts(z, q), &found, live, accept);
-        if meet != 0 {
-            m = 0;
-            while m < terminals {
-                if sets::has(meet, card::wider(m)) {
-                    break 'states;
+    'states: {
+        for q in 0..n {
+            let state = u32::from(q);
+            let live = candidates(w, keyed, state);
+            let found = words(c, w, z, live, state);
+            let accept = acceptance(a, q);
+            let meet = cells::meeting(p, shifts(z, q), &found, live, accept);
+            if meet != 0 {
+                for m in 0..terminals {
+                    if sets::has(meet, u32::from(m)) {
+                        break 'states Err(conflict_at(c, t, &found, q, m));
+                    }
                 }
-                m += 1;
             }
+            let b = areas::row(c, usize::from(q));
+            cells::write(t, b, p, &found, live, accept);
         }
-        cells::write(t, areas::row(c, card::wide(q)), p, &found, live, accept);
-        q += 1;
+        Ok(())
     }
-    if q < n {
-        return conflict(c, t, w, z, keyed, q, m);
-    }
-    Clash::Free
 }
 
 // The symbols under which the n states are entered.
@@ -219,40 +218,33 @@ fn entries(w: &[u32], n: u32) -> [u16; 256]
     ensures { (q : ℕ) → q < n → get_or result q 0 ≡ entering_of w.now q }
 {
     let mut s = [0u16; 256];
-    let mut q: u32 = 0;
-    while q < n {
-        s[card::wide32(q)] = transitions::entering(w, q) as u16;
-        q += 1;
+    for q in 0..n {
+        s[q as usize] = transitions::entering(w, q) as u16;
     }
     s
 }
 
 // The table of written rows and entering symbols, or zeros where two actions meet.
-fn close(c: &[u16], t: &mut [u16], e: &[u16; 256], n: u16, r: Clash) -> Clash
+fn close(c: &[u16], t: &mut [u16], e: &[u16; 256], n: u16, r: Result<(), Conflict>)
     requires { (0 < terminals c.now) × (n ≤ 256) × (row_of c.now n + n ≤ table_size) × (table_size ≤ length t.old) }
-    ensures { (result ≡ r) × Closed c.now e.now n t.old t.new r }
+    ensures { Closed c.now e.now n t.old t.new r }
 {
     match r {
-        Clash::Free => {
-            cells::finish(c, t, e, n);
-            Clash::Free
-        }
-        Clash::At(q, m, v, u) => {
-            cells::clear16(t, 0, areas::TABLE);
-            Clash::At(q, m, v, u)
-        }
+        Ok(()) => cells::finish(c, t, e, n),
+        Err(_) => t[..areas::TABLE].fill(0),
     }
 }
 
 // The cells, what stands in front of them and the zeros: the table, or the first cell where two actions meet.
-pub fn fill(c: &[u16], t: &mut [u16], w: &mut [u32], z: &mut [u64], n: u16) -> Clash
+pub fn fill(c: &[u16], t: &mut [u16], w: &mut [u32], z: &mut [u64], n: u16) -> Result<(), Conflict>
     requires { Stage c.now t.old w.old z.old n }
     ensures { Filled c.now t.old w.old z.old n t.new w.new z.new result }
 {
     let keyed = keys(c);
     let r = rows(c, t, w, z, &keyed, n);
-    let entered = entries(w, card::wider(n));
-    cells::clear64(z, 0, areas::WORDS);
-    cells::clear32(w, 0, areas::HALVES);
-    close(c, t, &entered, n, r)
+    let entered = entries(w, u32::from(n));
+    z[..areas::WORDS].fill(0);
+    w[..areas::HALVES].fill(0);
+    close(c, t, &entered, n, r);
+    r
 }

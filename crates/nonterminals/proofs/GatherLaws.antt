@@ -15,10 +15,8 @@ use Rattle.grammar.specs.Card.{terminals, nonterminals, productions, left_of, ri
 use Rattle.grammar.specs.Useful
 use Rattle.grammar.proofs.CardLaws.{well_formed, formed}
 use Rattle.grammar.proofs.Closed.{All, none, more, productive_left, productive_terminal, reachable_start, reachable_right, productive_least, reachable_least}
-use Rattle.nonterminals.specs.declared.Kind.{Kind}
-use Rattle.nonterminals.specs.declared.Kind.TheVariants.{Productive, Reachable}
 use Rattle.nonterminals.specs.Sets.{NonterminalSet}
-use Rattle.nonterminals.specs.Gathering.{Means, word_of, join_of, needs_of, gives_of, Sound, Round, Settled}
+use Rattle.nonterminals.specs.Gathering.{Kind, Productive, Reachable, Means, word_of, join_of, needs_of, gives_of, Sound, Round, Settled}
 use Rattle.nonterminals.proofs.WordLaws.{within_le, word_terminal, word_nonterminal, join_all, all_join}
 
 module _ (c : List ℕ) (v : ℕ) where
@@ -77,7 +75,6 @@ module _ (c : List ℕ) (fault : form_fault c ≡ 0) where
 
   -- what a production adds is meant
   adds : (k : Kind) (v r : ℕ) → r < productions c → Sound c k v → Within (needs_of c k r) v → Sound c k (gives_of c k r)
-  unfolding needs_of gives_of
   adds Productive v r h s n =
       sound_word Productive (left_of c r) (f.left_below r h)
       (productive_left (grammar_of c) r h (all_mean Productive v s (λ x z m. productive_terminal (grammar_of c) x z m) (f.right_symbols r h) (join_all c v (right_of c r) n)))
@@ -88,9 +85,6 @@ module _ (c : List ℕ) (fault : form_fault c ≡ 0) where
   -- ---- a round
 
   module _ (k : Kind) (w : ℕ) where
-    pub round_start : Sound c k w → Round c k w 0 w
-    round_start s = record { more = λ m e. e; sound = s; all = λ r h n. absurd (omega arith) }
-
     next : {v u n : ℕ} → Round c k w n v → Within v u → Sound c k u → (Within (needs_of c k n) w → Within (gives_of c k n) u) → Round c k w (n + 1) u
     next {v} {u} {n} t i s g =
         record {
@@ -130,13 +124,11 @@ module _ (c : List ℕ) (fault : form_fault c ≡ 0) where
       (omega (arith, f.start_nonterminal), rw o (reachable_start (grammar_of c)))
 
   pub productive_set : {v : ℕ} → Settled c Productive 0 v → NonterminalSet (grammar_of c) (Useful.Productive (grammar_of c)) v
-  unfolding needs_of gives_of
   productive_set {v} t =
       whole Productive v t.still.sound
       (λ x d. productive_least (grammar_of c) (In c v) (λ r h a. t.still.all r h (all_join c v a)) (λ a z h. in_terminal c v a h) d)
 
   pub reachable_set : {v : ℕ} → Settled c Reachable 1 v → NonterminalSet (grammar_of c) (Useful.Reachable (grammar_of c)) v
-  unfolding needs_of gives_of
   reachable_set {v} t =
       whole Reachable v t.still.sound
       (λ x d. reachable_least (grammar_of c) (In c v) (λ r h i. join_all c v (right_of c r) (t.still.all r h i))

@@ -259,9 +259,6 @@ module _ (c : List ℕ) (w : ℕ) where
         ahead = λ r h l. ⊎_elim (λ i. inl i) (λ d. inr (due_more c (λ m i. or_has_l w 0 m i) d)) (t.still r h);
       }
 
-  pub to_end : {u : ℕ} {e : List ℕ} → LessenedTo c w 0 e u → DueBy c e u
-  to_end t = record { witnessed = t.witnessed; still = λ r h. t.passed r h (omega arith) }
-
   module _ {n u : ℕ} {e : List ℕ} (t : LessenedTo c w (n + 1) e u) (h : n < productions c) where
     -- production n, or one behind it
     here_or : {A : Type 0} (r : ℕ) → n ≤ r → (r ≡ n → A) → (n + 1 ≤ r → A) → A
@@ -315,10 +312,6 @@ pub lower_more : {e₀ e : List ℕ} {u : ℕ} → Lower e₀ e u → (c : List 
 lower_more t c (looked l) = lower_look t c l
 lower_more (same z q) c (passed_over never i y) = same (rw (z, y) refl) (i ∙ q)
 lower_more {u = u} (lower l) c (passed_over never i y) = lower (rw i l)
-
-pub lower_some : {e₀ e : List ℕ} {u : ℕ} → Lower e₀ e u → (u ≡ 0 → ⊥) → mass e < mass e₀
-lower_some (same z q) n = absurd (n z)
-lower_some (lower l) n = l
 
 -- nothing was lessened
 pub lessened_none : (c e : List ℕ) (u : ℕ) → form_fault c ≡ 0 → DueBy c e u → u ≡ 0 → ShortestLengths (grammar_of c) 60 (λ j. get_or e j 0)

@@ -12,10 +12,10 @@ use borrow.Author.Tests.{lt-ltb, le-ltb}
 use Rattle.sets.specs.Bit.{bit, Within}
 use Rattle.sets.proofs.BitLaws.{bit_of_or, bit_zero, bits_eq}
 use Rattle.sets.proofs.HasLaws.{eq_or, has_none, has_or, or_has_l, or_has_r, or_assoc, or_false}
-use Rattle.grammar.specs.Card.{terminals, nonterminals, productions, length_of, right_of, symbol_of, start_of, form_fault}
+use Rattle.grammar.specs.Card.{terminals, nonterminals, productions, length_of, symbol_of, start_of, form_fault}
 use Rattle.grammar.proofs.CardLaws.{well_formed, start_mono, right_at}
 use Rattle.grammar.proofs.Closed.{All, none, more}
-use Rattle.nonterminals.specs.Gathering.{word_of, join_of, Rights}
+use Rattle.nonterminals.specs.Gathering.{word_of, join_of, Words}
 
 or_within : (p q : Bool) → (p ≡ true → q ≡ true) → (p || q) ≡ q
 or_within true q e = sym (e refl)
@@ -64,13 +64,13 @@ module _ (c : List ℕ) (h : form_fault c ≡ 0) (r d : ℕ) (k : r < production
 pub ends_below : (c : List ℕ) → form_fault c ≡ 0 → (r : ℕ) → r < productions c → start_of c r + length_of c r ≤ 512
 ends_below c h r k = let w = well_formed c h in omega (arith, start_mono c (productions c) r k, w.sum, w.limits.symbols_to_is)
 
--- ---- the right sides
+-- ---- the words of the productions
 
-pub rights_start : (c : List ℕ) → Rights c 0 (replicate 128 0)
-rights_start c = record { long = length-replicate {A = ℕ} 128 0; words = λ r h. absurd (omega arith) }
+pub words_start : (f : ℕ → ℕ) → Words f 0 (replicate 128 0)
+words_start f = record { long = length-replicate {A = ℕ} 128 0; words = λ r h. absurd (omega arith) }
 
-pub rights_more : (c v : List ℕ) (n : ℕ) → Rights c n v → n < 128 → (i x : ℕ) → i ≡ n → x ≡ join_of c (right_of c n) → Rights c (n + 1) (set v i x)
-rights_more c v n R h i x ei ex =
+pub words_more : (f : ℕ → ℕ) (v : List ℕ) (n : ℕ) → Words f n v → n < 128 → (i x : ℕ) → i ≡ n → x ≡ f n → Words f (n + 1) (set v i x)
+words_more f v n R h i x ei ex =
     rw ei
     (record {
       long = length-set v n x ∙ R.long;

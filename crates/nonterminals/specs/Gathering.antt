@@ -5,8 +5,11 @@ use Rattle.sets.specs.Bit.{Has, Within}
 use Rattle.grammar.specs.Grammar.{Grammar}
 use Rattle.grammar.specs.Card.{terminals, nonterminals, productions, left_of, right_of, grammar_of}
 use Rattle.grammar.specs.Useful
-use Rattle.nonterminals.specs.declared.Kind.{Kind}
-use Rattle.nonterminals.specs.declared.Kind.TheVariants.{Productive, Reachable}
+
+-- what a set gathers
+pub data Kind : Type 0 where
+  Productive : Kind
+  Reachable : Kind
 
 -- x is what a set of the kind gathers
 abbrev pub Means : Grammar → Kind → ℕ → Type 0
@@ -22,17 +25,24 @@ unfoldable pub join_of : List ℕ → List ℕ → ℕ
 join_of c [] = 0
 join_of c (x ∷ l) = bit_or (word_of c x) (join_of c l)
 
--- v has the right sides of the first n productions as sets
-pub record Rights (c : List ℕ) (n : ℕ) (v : List ℕ) : Type 0 where
+-- v has the word f of each of the first n productions
+pub record Words (f : ℕ → ℕ) (n : ℕ) (v : List ℕ) : Type 0 where
   pub long : length v ≡ 128
-  pub words : (r : ℕ) → r < n → get_or v r 0 ≡ join_of c (right_of c r)
+  pub words : (r : ℕ) → r < n → get_or v r 0 ≡ f r
+
+-- their left sides, and their right sides, as sets
+abbrev pub Lefts : List ℕ → ℕ → List ℕ → Type 0
+Lefts c n v = Words (λ r. word_of c (left_of c r)) n v
+
+abbrev pub Rights : List ℕ → ℕ → List ℕ → Type 0
+Rights c n v = Words (λ r. join_of c (right_of c r)) n v
 
 -- what must be in a set for production r to add to it, and what it adds
-unfoldable pub needs_of : List ℕ → Kind → ℕ → ℕ
+abbrev pub needs_of : List ℕ → Kind → ℕ → ℕ
 needs_of c Productive r = join_of c (right_of c r)
 needs_of c Reachable r = word_of c (left_of c r)
 
-unfoldable pub gives_of : List ℕ → Kind → ℕ → ℕ
+abbrev pub gives_of : List ℕ → Kind → ℕ → ℕ
 gives_of c Productive r = word_of c (left_of c r)
 gives_of c Reachable r = join_of c (right_of c r)
 

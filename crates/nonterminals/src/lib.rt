@@ -1,21 +1,14 @@
 // The shortest lengths of a card's nonterminals; the productive and the reachable ones, each set one
-// number with bit j for nonterminal T + j; and refusal 10.
+// number with bit j for nonterminal T + j; and the lowest that is not both.
 #![tactic(auto)]
 
 ghost use Rattle.std.specs.Prelude.{◌≡◌, true, List, ℕ, ◌+◌, ◌≤◌, ◌<◌, get_or};
 ghost use Rattle.grammar.specs.Card.{terminals, nonterminals, productions, symbols, left_of, right_of, symbol_of, start_of, grammar_of, form_fault};
-ghost use Rattle.grammar.specs.Useful.{Productive, Reachable, LowestUseless};
+ghost use Rattle.grammar.specs.Useful.{Productive, Reachable};
 ghost use Rattle.grammar.specs.Shortest.{length_cap, ShortestLengths};
-ghost use Rattle.nonterminals.specs.Sets.{NonterminalSet};
-ghost use Rattle.nonterminals.specs.Gathering.{word_of, join_of, Rights, needs_of, gives_of, Sound, Round, Settled};
+ghost use Rattle.nonterminals.specs.Sets.{NonterminalSet, FoundUseless};
+ghost use Rattle.nonterminals.specs.Gathering.{Kind, Words, word_of, join_of, Lefts, Rights, needs_of, gives_of, Sound, Round, Settled};
 ghost use Rattle.nonterminals.specs.Lessening.{count_of, total_of, Below, Witnessed, left_number, Lessened, LessenedDue, Due, DueBy, Lower};
-
-// What a set gathers.
-#[derive(Clone, Copy)]
-enum Kind {
-    Productive,
-    Reachable,
-}
 
 // The symbol x as a set: a nonterminal's bit, and none for a terminal.
 fn word(c: &[u16], x: u16) -> u64
@@ -23,10 +16,7 @@ fn word(c: &[u16], x: u16) -> u64
     ensures { result ≡ word_of c.now x }
 {
     let first = card::terminals(c);
-    if x < first {
-        return 0;
-    }
-    1 << (x - first)
+    if x < first { 0 } else { 1 << (x - first) }
 }
 
 // The left side of production r as a set.
@@ -42,12 +32,21 @@ fn right(c: &[u16], r: u16, s: u32) -> u64
     requires { (form_fault c.now ≡ 0) × (r < productions c.now) × (s ≡ start_of c.now r) }
     ensures { result ≡ join_of c.now (right_of c.now r) }
 {
-    let n = card::length(c, r);
     let mut v: u64 = 0;
-    let mut d: u16 = 0;
-    while d < n {
-        v |= word(c, card::symbol(c, s + card::wider(d)));
-        d += 1;
+    for d in 0..card::length(c, r) {
+        v |= word(c, card::symbol(c, s + u32::from(d)));
+    }
+    v
+}
+
+// The left side of each production as a set.
+fn lefts(c: &[u16]) -> [u64; 128]
+    requires { form_fault c.now ≡ 0 }
+    ensures { Lefts c.now (productions c.now) result }
+{
+    let mut v = [0u64; 128];
+    for r in 0..card::productions(c) {
+        v[usize::from(r)] = left(c, r);
     }
     v
 }
@@ -57,66 +56,39 @@ fn rights(c: &[u16]) -> [u64; 128]
     requires { form_fault c.now ≡ 0 }
     ensures { Rights c.now (productions c.now) result }
 {
-    let p = card::productions(c);
     let mut v = [0u64; 128];
     let mut s: u32 = 0;
-    let mut r: u16 = 0;
-    while r < p {
-        v[card::wide(r)] = right(c, r, s);
-        s += card::wider(card::length(c, r));
-        r += 1;
+    for r in 0..card::productions(c) {
+        v[usize::from(r)] = right(c, r, s);
+        s += u32::from(card::length(c, r));
     }
     v
 }
 
-// What must be in a set of the kind for production r to add to it; v has the right sides.
-fn needs(c: &[u16], kind: Kind, v: &[u64; 128], r: u16) -> u64
-    requires { (form_fault c.now ≡ 0) × (r < productions c.now) × Rights c.now (productions c.now) v.now }
-    ensures { result ≡ needs_of c.now kind r }
-{
-    match kind {
-        Kind::Productive => v[card::wide(r)],
-        Kind::Reachable => left(c, r),
-    }
-}
-
-// What production r adds.
-fn gives(c: &[u16], kind: Kind, v: &[u64; 128], r: u16) -> u64
-    requires { (form_fault c.now ≡ 0) × (r < productions c.now) × Rights c.now (productions c.now) v.now }
-    ensures { result ≡ gives_of c.now kind r }
-{
-    match kind {
-        Kind::Productive => left(c, r),
-        Kind::Reachable => v[card::wide(r)],
-    }
-}
-
-// One production after the other adds to w.
-fn round(c: &[u16], kind: Kind, v: &[u64; 128], w: u64) -> u64
-    requires { (form_fault c.now ≡ 0) × Rights c.now (productions c.now) v.now × Sound c.now kind w }
+// One production after the other adds to w: where w has what it needs, what it gives.
+fn round(c: &[u16], needs: &[u64; 128], gives: &[u64; 128], w: u64) -> u64
+    ghost kind: { Kind }
+    requires { (form_fault c.now ≡ 0) × Words (needs_of c.now kind) (productions c.now) needs.now × Words (gives_of c.now kind) (productions c.now) gives.now × Sound c.now kind w }
     ensures { Round c.now kind w (productions c.now) result }
 {
-    let p = card::productions(c);
     let mut t = w;
-    let mut r: u16 = 0;
-    while r < p {
-        let n = needs(c, kind, v, r);
-        if n & t == n {
-            t |= gives(c, kind, v, r);
+    for r in 0..usize::from(card::productions(c)) {
+        if needs[r] & t == needs[r] {
+            t |= gives[r];
         }
-        r += 1;
     }
     t
 }
 
 // Rounds until nothing is new.
-fn settled(c: &[u16], kind: Kind, v: &[u64; 128], w: u64) -> u64
-    requires { (form_fault c.now ≡ 0) × Rights c.now (productions c.now) v.now × Sound c.now kind w }
+fn settled(c: &[u16], needs: &[u64; 128], gives: &[u64; 128], w: u64) -> u64
+    ghost kind: { Kind }
+    requires { (form_fault c.now ≡ 0) × Words (needs_of c.now kind) (productions c.now) needs.now × Words (gives_of c.now kind) (productions c.now) gives.now × Sound c.now kind w }
     ensures { Settled c.now kind w result }
 {
     let mut t = w;
     loop {
-        let u = round(c, kind, v, t);
+        let u = round(c, needs, gives, t);
         if u == t {
             return t;
         }
@@ -124,31 +96,36 @@ fn settled(c: &[u16], kind: Kind, v: &[u64; 128], w: u64) -> u64
     }
 }
 
-// The nonterminals that derive a string of terminals.
-fn productive(c: &[u16], v: &[u64; 128]) -> u64
-    requires { (form_fault c.now ≡ 0) × Rights c.now (productions c.now) v.now }
+// The nonterminals that derive a string of terminals: where the right side does, the left side.
+fn productive(c: &[u16], lefts: &[u64; 128], rights: &[u64; 128]) -> u64
+    requires { (form_fault c.now ≡ 0) × Lefts c.now (productions c.now) lefts.now × Rights c.now (productions c.now) rights.now }
     ensures { NonterminalSet (grammar_of c.now) (Productive (grammar_of c.now)) result }
 {
-    settled(c, Kind::Productive, v, 0)
+    settled(c, rights, lefts, 0)
 }
 
-// The nonterminals that are reached from the start, whose bit is 0.
-fn reachable(c: &[u16], v: &[u64; 128]) -> u64
-    requires { (form_fault c.now ≡ 0) × Rights c.now (productions c.now) v.now }
+// The nonterminals that are reached from the start, whose bit is 0: where the left side is, the right side.
+fn reachable(c: &[u16], lefts: &[u64; 128], rights: &[u64; 128]) -> u64
+    requires { (form_fault c.now ≡ 0) × Lefts c.now (productions c.now) lefts.now × Rights c.now (productions c.now) rights.now }
     ensures { NonterminalSet (grammar_of c.now) (Reachable (grammar_of c.now)) result }
 {
-    settled(c, Kind::Reachable, v, 1)
+    settled(c, lefts, rights, 1)
 }
 
-// Refusal 10: the lowest nonterminal that is not reached or derives no string of terminals; T + N
-// where there is none.
-pub fn useless(c: &[u16]) -> u16
+// The lowest nonterminal that is not reached or derives no string of terminals, where there is one.
+pub fn useless(c: &[u16]) -> Option<u16>
     requires { form_fault c.now ≡ 0 }
-    ensures { LowestUseless (grammar_of c.now) result }
+    ensures { FoundUseless (grammar_of c.now) result }
 {
-    let v = rights(c);
-    let useful = productive(c, &v) & reachable(c, &v);
-    card::terminals(c) + sets::lowest(!useful) as u16
+    let lefts = lefts(c);
+    let rights = rights(c);
+    let useful = productive(c, &lefts, &rights) & reachable(c, &lefts, &rights);
+    let j = sets::lowest(!useful) as u16;
+    if j < card::nonterminals(c) {
+        Some(card::terminals(c) + j)
+    } else {
+        None
+    }
 }
 
 // ---- the shortest lengths
@@ -166,7 +143,7 @@ fn count(c: &[u16], e: &[u16; 60], k: u32) -> u32
     if x < t {
         return 1;
     }
-    card::wider(e[card::wide(x - t)])
+    u32::from(e[usize::from(x - t)])
 }
 
 // The sum of the right side of production r, whose symbols begin at s, as far as it is below m.
@@ -174,15 +151,12 @@ fn total(c: &[u16], e: &[u16; 60], r: u16, s: u32, m: u32) -> u32
     requires { (form_fault c.now ≡ 0) × (r < productions c.now) × (s ≡ start_of c.now r) × Witnessed c.now e.now × (m ≤ length_cap) }
     ensures { Below (total_of c.now e.now (right_of c.now r)) m result }
 {
-    let n = card::length(c, r);
     let mut v: u32 = 0;
-    let mut d: u16 = 0;
-    while d < n {
+    for d in 0..card::length(c, r) {
         if m <= v {
             return v;
         }
-        v += count(c, e, s + card::wider(d));
-        d += 1;
+        v += count(c, e, s + u32::from(d));
     }
     v
 }
@@ -192,7 +166,7 @@ fn left_number(c: &[u16], r: u16) -> usize
     requires { (form_fault c.now ≡ 0) × (r < productions c.now) }
     ensures { (result ≡ left_number c.now r) × (result < 60) }
 {
-    card::wide(card::left(c, r) - card::terminals(c))
+    usize::from(card::left(c, r) - card::terminals(c))
 }
 
 // Whether production r is due by w, v being the right sides: w has a nonterminal of its right side, or is that of the first round.
@@ -200,7 +174,7 @@ fn due(v: &[u64; 128], r: u16, w: u64) -> bool
     requires { r < 128 }
     ensures { (c : List ℕ) (n : ℕ) → Rights c n v.now → r < n → Due c w r → result ≡ true }
 {
-    (v[card::wide(r)] | FIRST_ROUND) & w != 0
+    (v[usize::from(r)] | FIRST_ROUND) & w != 0
 }
 
 // Lessens the length of the left side of production r to the sum of its right side, where that is less. Gives the left side as
@@ -210,7 +184,7 @@ fn lessen(c: &[u16], e: &mut [u16; 60], r: u16, s: u32) -> u64
     ensures { Lessened c.now e.old r e.new result }
 {
     let j = left_number(c, r);
-    let m = card::wider(e[j]);
+    let m = u32::from(e[j]);
     let v = total(c, e, r, s, m);
     if v < m {
         e[j] = v as u16;
@@ -235,7 +209,7 @@ pub fn end(c: &[u16]) -> u32
     requires { form_fault c.now ≡ 0 }
     ensures { result ≡ start_of c.now (productions c.now) }
 {
-    card::wider(card::symbols(c))
+    u32::from(card::symbols(c))
 }
 
 // Where the symbols of production r begin, if those of the next one begin at s.
@@ -243,7 +217,7 @@ pub fn start_before(c: &[u16], r: u16, s: u32) -> u32
     requires { s ≡ start_of c.now (r + 1) }
     ensures { result ≡ start_of c.now r }
 {
-    s - card::wider(card::length(c, r))
+    s - u32::from(card::length(c, r))
 }
 
 // A round, from the last production to the first: each that is due by w, or by what was lessened before it in this round, lessens the
@@ -254,9 +228,7 @@ fn lessen_all(c: &[u16], v: &[u64; 128], e: &mut [u16; 60], w: u64) -> u64
 {
     let mut u: u64 = 0;
     let mut s = end(c);
-    let mut r = card::productions(c);
-    while 0 < r {
-        r -= 1;
+    for r in (0..card::productions(c)).rev() {
         s = start_before(c, r, s);
         u |= lessen_due(c, v, e, r, s, w | u);
     }

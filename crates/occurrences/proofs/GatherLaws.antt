@@ -1,22 +1,24 @@
 -- The pass over the productions of the card, symbol by symbol from the end of each.
 use mathlib.Core.Path.{◌≡◌, refl, sym, ap, ap₂, ◌∙◌, subst}
 use mathlib.Core.List.{List}
-use mathlib.Core.Logic.{◌⊎◌, inl, inr, ⊎_elim}
+use mathlib.Core.Logic.{◌≢◌, inl, inr, ⊎_elim}
 use Prim.Native.Nat.{ℕ, suc, ◌+◌, ◌-◌, ◌≤◌, ◌<◌}
 use native.Mathlib.Omega.{arith}
 use native.Mathlib.Nat.{eq-or-lt_of_le}
 use native.Mathlib.Numerals.{add-one}
 use lib.ListN.{get_or}
 use Rattle.sets.proofs.HasLaws.{lt_or_ge, eq_or}
-use Rattle.grammar.specs.Card.{terminals, nonterminals, productions, length_of, start_of, form_fault}
+use Rattle.grammar.specs.Card.{terminals, nonterminals, productions, length_of, start_of, symbol_of, form_fault}
 use Rattle.grammar.proofs.CardLaws.{well_formed}
 use Rattle.transitions.specs.Places.{starts_at, lasts_at, productions_at, dots_at, links_at, occurrences_at, lengths_at}
 use Rattle.transitions.specs.Area.{last_of, production_of, dot_of, link_of, shortest_of}
 use Rattle.transitions.specs.Writes.{Stored, Measured}
 use Rattle.transitions.specs.Occurrences.{symbol_at, Nullable, Occurs, occurring_of, Latest}
-use Rattle.occurrences.specs.Stores.{Cleared, Occurred}
+use Rattle.occurrences.specs.Stores.{Occurred}
+use Rattle.occurrences.proofs.StoreLaws.{Cleared}
 use Rattle.occurrences.specs.Gathers.{Gathered, Between, Started, Collected, Prepared}
 use Rattle.transitions.proofs.WriteLaws.{shortest_same}
+use Rattle.transitions.proofs.SymbolLaws.{symbol_is, symbol_high, right_fits}
 
 pub latest_same : (c w w' : List ℕ) (x m a : ℕ) → ((o : ℕ) → o < m → occurring_of c w' o ≡ occurring_of c w o) → Latest c w x m a → Latest c w' x m a
 latest_same c w w' x m a same L = record {
@@ -66,7 +68,7 @@ module _ (c : List ℕ) (e : ℕ → ℕ) (w : List ℕ) (r d m : ℕ) (G : Gath
   }
 
   -- an occurrence before the dot
-  pub gather_more : (w' : List ℕ) → nonterminals c ≤ 60 → 0 < d → d ≤ length_of c r → (j : ℕ) → j < nonterminals c → symbol_at c r (d - 1) ≡ terminals c + j → Occurs c e r (d - 1) → Occurred w m r (d - 1) j w' → Gathered c e w' r (d - 1) (m + 1)
+  gather_more : (w' : List ℕ) → nonterminals c ≤ 60 → 0 < d → d ≤ length_of c r → (j : ℕ) → j < nonterminals c → symbol_at c r (d - 1) ≡ terminals c + j → Occurs c e r (d - 1) → Occurred w m r (d - 1) j w' → Gathered c e w' r (d - 1) (m + 1)
   unfolding occurring_of
   gather_more w' n60 h l j hj ej O M = record {
     most = let a = G.most in omega arith;
@@ -141,7 +143,7 @@ module _ (c : List ℕ) (e : ℕ → ℕ) (r d : ℕ) (hd : 0 < d) (hl : d ≤ l
   no_more : (Nullable c e (symbol_at c r (d - 1)) → ⊥) → (i : ℕ) → i < d - 1 → Occurs c e r i → ⊥
   no_more n i h O = n (O.tail (d - 1) (omega arith) (omega arith))
 
-  pub tail_terminal : (w : List ℕ) (m x : ℕ) → Gathered c e w r d m → x ≡ symbol_at c r (d - 1) → x < terminals c → Gathered c e w r 0 m
+  tail_terminal : (w : List ℕ) (m x : ℕ) → Gathered c e w r d m → x ≡ symbol_at c r (d - 1) → x < terminals c → Gathered c e w r 0 m
   tail_terminal w m x G ex h =
       gather_stop c e w r d m G (λ i l O.
       ⊎_elim
@@ -149,13 +151,13 @@ module _ (c : List ℕ) (e : ℕ → ℕ) (r d : ℕ) (hd : 0 < d) (hl : d ≤ l
       (λ (z : i ≡ d - 1 → ⊥). no_more (λ n. let a = n.nonterminal in omega arith) i (omega arith) O)
       (eq_or i (d - 1)))
 
-  pub tail_occurs : (x : ℕ) → r < productions c → NullFrom c e r d → x ≡ symbol_at c r (d - 1) → terminals c ≤ x → Occurs c e r (d - 1)
+  tail_occurs : (x : ℕ) → r < productions c → NullFrom c e r d → x ≡ symbol_at c r (d - 1) → terminals c ≤ x → Occurs c e r (d - 1)
   tail_occurs x hr null ex h = record { production = hr; within = omega arith; nonterminal = rw (← ex) h; tail = λ i l g. null i (omega arith) g }
 
-  pub tail_last : (w : List ℕ) (m x t v : ℕ) → Gathered c e w r (d - 1) m → x ≡ symbol_at c r (d - 1) → t ≡ terminals c → v ≡ e (x - t) → 0 < v → Gathered c e w r 0 m
+  tail_last : (w : List ℕ) (m x t v : ℕ) → Gathered c e w r (d - 1) m → x ≡ symbol_at c r (d - 1) → t ≡ terminals c → v ≡ e (x - t) → 0 < v → Gathered c e w r 0 m
   tail_last w m x t v G ex et ev some = gather_stop c e w r (d - 1) m G (no_more (λ n. let z : v ≡ 0 = ev ∙ ap₂ (λ (y z : ℕ). e (y - z)) ex et ∙ n.empty in omega arith))
 
-  pub tail_null : (x t v : ℕ) → NullFrom c e r d → x ≡ symbol_at c r (d - 1) → t ≡ terminals c → t ≤ x → v ≡ e (x - t) → v ≡ 0 → NullFrom c e r (d - 1)
+  tail_null : (x t v : ℕ) → NullFrom c e r d → x ≡ symbol_at c r (d - 1) → t ≡ terminals c → t ≤ x → v ≡ e (x - t) → v ≡ 0 → NullFrom c e r (d - 1)
   tail_null x t v null ex et h ev none i l g =
       ⊎_elim
       (λ (z : d - 1 ≡ i). subst (λ (y : ℕ). Nullable c e (symbol_at c r y)) z here)
@@ -165,28 +167,57 @@ module _ (c : List ℕ) (e : ℕ → ℕ) (r d : ℕ) (hd : 0 < d) (hl : d ≤ l
       here : Nullable c e (symbol_at c r (d - 1))
       here = record { nonterminal = rw (← ex, ← et) h; empty = rw (← ex, ← et) (sym ev ∙ none) }
 
-pub tail_inside : (d n : ℕ) → 0 < d → d ≤ n → d - 1 < n
-tail_inside d n h l = omega arith
+-- one turn: the symbol before the dot d is x, there are t terminals
+pub record Turn (c w₀ w : List ℕ) (r d m s x t : ℕ) : Type 0 where
+  pub form : form_fault c ≡ 0
+  pub production : r < productions c
+  pub start : s ≡ start_of c r
+  pub some : 0 < d
+  pub within : d ≤ length_of c r
+  pub gathered : Gathered c (shortest_of w₀) w r d m
+  pub null : NullFrom c (shortest_of w₀) r d
+  pub between : Between w₀ w
+  pub terminals' : t ≡ terminals c
+  pub symbol : x ≡ symbol_of c (s + (d - 1))
 
-pub tail_split : (c : List ℕ) (r i x t : ℕ) → t ≡ terminals c → t ≤ x → x ≡ symbol_at c r i → symbol_at c r i ≡ terminals c + (x - t)
-tail_split c r i x t et h ex = omega arith
+module _ (c w₀ w : List ℕ) (r d m s x t : ℕ) (T : Turn c w₀ w r d m s x t) where
+  symbol_here : x ≡ symbol_at c r (d - 1)
+  symbol_here = symbol_is c r s (d - 1) x T.start T.symbol
 
-pub tail_number : (c : List ℕ) (r i x t : ℕ) → t ≡ terminals c → t ≤ x → x ≡ symbol_at c r i → symbol_at c r i < terminals c + nonterminals c → x - t < nonterminals c
-tail_number c r i x t et h ex g = omega arith
+  pub turn_terminal : x < t → Gathered c (shortest_of w₀) w r 0 m × Between w₀ w
+  turn_terminal h = let e = T.terminals' in (tail_terminal c (shortest_of w₀) r d T.some T.within w m x T.gathered symbol_here (omega arith), T.between)
 
-pub below : (r p n : ℕ) → p ≡ n → r < p → r < n
-below r p n e h = omega arith
+  module _ (le : t ≤ x) where
+    number : x - t < nonterminals c
+    number = let h = symbol_high c r (d - 1) T.form T.production (omega (arith, T.some, T.within)) in omega (arith, symbol_here, T.terminals')
 
-pub between_step : (w₀ w w' : List ℕ) (m r d j : ℕ) → Between w₀ w → Occurred w m r d j w' → Between w₀ w'
-between_step w₀ w w' m r d j B M = record { long = M.long ∙ B.long; low = λ i h. M.low i h ∙ B.low i h; high = λ i h. M.high i h ∙ B.high i h }
+    pub turn_room : (m < 512) × (x - t < 60)
+    turn_room = let w = (well_formed c T.form).limits.nonterminals_to in let f = right_fits c r T.form T.production in let a = T.gathered.most in (omega (arith, T.within, T.some), omega (arith, number))
 
-pub between_here : (w : List ℕ) → Between w w
-between_here w = record { long = refl; low = λ i h. refl; high = λ i h. refl }
+    module _ (w' : List ℕ) (M : Occurred w m r (d - 1) (x - t) w') where
+      turn_gathered : Gathered c (shortest_of w₀) w' r (d - 1) (m + 1)
+      turn_gathered =
+          gather_more c (shortest_of w₀) w r d m T.gathered w' (well_formed c T.form).limits.nonterminals_to T.some T.within (x - t) number
+          (omega (arith, symbol_here, T.terminals'))
+          (tail_occurs c (shortest_of w₀) r d T.some T.within x T.production T.null symbol_here (omega (arith, T.terminals'))) M
+
+      turn_between : Between w₀ w'
+      turn_between = record { long = M.long ∙ T.between.long; low = λ i h. M.low i h ∙ T.between.low i h; high = λ i h. M.high i h ∙ T.between.high i h }
+
+      module _ (v : ℕ) (ev : v ≡ shortest_of w' (x - t)) where
+        length_here : v ≡ shortest_of w₀ (x - t)
+        length_here = ev ∙ turn_between.high (lengths_at + (x - t)) (omega arith)
+
+        pub turn_last : v ≢ 0 → Gathered c (shortest_of w₀) w' r 0 (m + 1) × Between w₀ w'
+        turn_last n = (tail_last c (shortest_of w₀) r d T.some T.within w' (m + 1) x t v turn_gathered symbol_here T.terminals' length_here (omega arith), turn_between)
+
+        pub turn_null : v ≡ 0 → (d - 1 ≤ length_of c r) × Gathered c (shortest_of w₀) w' r (d - 1) (m + 1) × NullFrom c (shortest_of w₀) r (d - 1) × Between w₀ w'
+        turn_null z = (omega (arith, T.within), turn_gathered, tail_null c (shortest_of w₀) r d T.some T.within x t v T.null symbol_here T.terminals' le length_here z, turn_between)
 
 -- ---- the starts
 
-module _ (c w w₁ : List ℕ) (r s i : ℕ) (ei : i ≡ r) (hr : r < 128) (S : Stored w (starts_at + i) s w₁) where
-  pub store_high : (j : ℕ) → occurrences_at ≤ j → get_or w₁ j 0 ≡ get_or w j 0
+module _ (c w w₁ : List ℕ) (r s : ℕ) (hr : r < 128) (S : Stored w (starts_at + r) s w₁) where
+  store_high : (j : ℕ) → occurrences_at ≤ j → get_or w₁ j 0 ≡ get_or w j 0
   store_high j h = S.other j (λ z. omega arith)
 
   -- the lengths stay those of w₀
@@ -197,23 +228,25 @@ module _ (c w w₁ : List ℕ) (r s i : ℕ) (ei : i ≡ r) (hr : r < 128) (S : 
     pub store_start : (m : ℕ) → Gathered c (shortest_of w₀) w r (length_of c r) m → Gathered c (shortest_of w₁) w₁ r (length_of c r) m
     store_start m G = rw store_lengths (gather_same c (shortest_of w₀) w w₁ r (length_of c r) m (λ j h. S.other j (λ z. omega arith)) G)
 
-    pub store_tail : (w₂ : List ℕ) (m : ℕ) → Gathered c (shortest_of w₁) w₂ r 0 m → Gathered c (shortest_of w₀) w₂ (r + 1) (length_of c (r + 1)) m
-    store_tail w₂ m G = rw store_lengths at (gather_next c (shortest_of w₁) w₂ r 0 m G refl)
+    -- and then the occurrences of production r
+    module _ (w₂ : List ℕ) (B : Between w₁ w₂) where
+      pub store_tail : (m : ℕ) → Gathered c (shortest_of w₁) w₂ r 0 m → Gathered c (shortest_of w₀) w₂ (r + 1) (length_of c (r + 1)) m
+      store_tail m G = rw store_lengths at (gather_next c (shortest_of w₁) w₂ r 0 m G refl)
 
-  pub started_more : (w₂ : List ℕ) → s ≡ start_of c r → Between w₁ w₂ → Started c w r → Started c w₂ (r + 1)
-  started_more w₂ es B T = record {
-    starts = λ u h.
-        ⊎_elim
-        (λ (z : u ≡ r). rw z (B.low (starts_at + r) (omega arith) ∙ rw ei at S.here ∙ es))
-        (λ (z : u < r). B.low (starts_at + u) (omega arith) ∙ S.other (starts_at + u) (λ y. omega arith) ∙ T.starts u z)
-        (eq-or-lt_of_le (let v : u ≤ r = omega arith in v));
-  }
+      pub tail_high : (j : ℕ) → occurrences_at ≤ j → get_or w₂ j 0 ≡ get_or w₀ j 0
+      tail_high j h = B.high j h ∙ store_high j h ∙ high j h
+
+      pub started_more : s ≡ start_of c r → Started c w r → Started c w₂ (r + 1)
+      started_more es T = record {
+        starts = λ u h.
+            ⊎_elim
+            (λ (z : u ≡ r). rw z (B.low (starts_at + r) (omega arith) ∙ S.here ∙ es))
+            (λ (z : u < r). B.low (starts_at + u) (omega arith) ∙ S.other (starts_at + u) (λ y. omega arith) ∙ T.starts u z)
+            (eq-or-lt_of_le (let v : u ≤ r = omega arith in v));
+      }
 
 gather_few : (c : List ℕ) (e : ℕ → ℕ) (w : List ℕ) (m : ℕ) → form_fault c ≡ 0 → Gathered c e w (productions c) (length_of c (productions c)) m → m ≤ 512
 gather_few c e w m ff G = let F = well_formed c ff in let a = G.most in omega (arith, F.sum, F.limits.symbols_to_is)
-
-pub gather_end : (c : List ℕ) (e : ℕ → ℕ) (w : List ℕ) (r p m : ℕ) → p ≡ productions c → r ≤ p → p ≤ r → Gathered c e w r (length_of c r) m × Started c w r → Gathered c e w (productions c) (length_of c (productions c)) m × Started c w (productions c)
-gather_end c e w r p m ep h g G = let z : r ≡ productions c = omega arith in rw z at G
 
 -- ---- all of it
 

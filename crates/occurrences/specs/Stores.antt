@@ -3,13 +3,6 @@ use Rattle.std.specs.Prelude.{ℕ, ◌+◌, ◌≤◌, ◌<◌, ◌≡◌, List,
 use Rattle.transitions.specs.Places.{lasts_at, occurrences_at}
 use Rattle.transitions.specs.Area.{last_of, production_of, dot_of, link_of}
 
--- the places from b to e are 0, the others as they were
-pub record Cleared (w : List ℕ) (b e : ℕ) (w' : List ℕ) : Type 0 where
-  pub long : length w' ≡ length w
-  pub zero : (i : ℕ) → b ≤ i → i < e → get_or w' i 0 ≡ 0
-  pub low : (i : ℕ) → i < b → get_or w' i 0 ≡ get_or w i 0
-  pub high : (i : ℕ) → e ≤ i → get_or w' i 0 ≡ get_or w i 0
-
 -- symbol d of production r, nonterminal number j, is put down as occurrence m
 pub record Occurred (w : List ℕ) (m r d j : ℕ) (w' : List ℕ) : Type 0 where
   pub long : length w' ≡ length w

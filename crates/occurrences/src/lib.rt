@@ -5,20 +5,8 @@ ghost use Rattle.std.specs.Prelude.{◌≡◌, ◌<◌, ◌≤◌, length};
 ghost use Rattle.grammar.specs.Card.{productions, length_of, start_of, form_fault};
 ghost use Rattle.areas.specs.Areas.{halves_size};
 ghost use Rattle.transitions.specs.Area.{shortest_of};
-ghost use Rattle.occurrences.specs.Stores.{Cleared, Occurred};
+ghost use Rattle.occurrences.specs.Stores.{Occurred};
 ghost use Rattle.occurrences.specs.Gathers.{Gathered, Between, Collected, Prepared};
-
-// Zeros from place b to place e.
-pub fn clear(w: &mut [u32], b: usize, e: usize)
-    requires { (b ≤ e) × (e ≤ length w.old) }
-    ensures { Cleared w.old b e w.new }
-{
-    let mut i = b;
-    while i < e {
-        w[i] = 0;
-        i += 1;
-    }
-}
 
 // Puts symbol d of production r, nonterminal number j, down as occurrence m.
 fn occur(w: &mut [u32], m: u32, r: u32, d: u32, j: u32)
@@ -37,16 +25,14 @@ fn tail(c: &[u16], w: &mut [u32], r: u16, s: u32, m: u32) -> u32
     requires { (form_fault c.now ≡ 0) × (r < productions c.now) × (s ≡ start_of c.now r) × (halves_size ≤ length w.old) × Gathered c.now (shortest_of w.old) w.old r (length_of c.now r) m }
     ensures { Gathered c.now (shortest_of w.old) w.new r 0 result × Between w.old w.new }
 {
-    let t = card::wider(card::terminals(c));
-    let mut d = card::wider(card::length(c, r));
+    let t = u32::from(card::terminals(c));
     let mut k = m;
-    while 0 < d {
-        d -= 1;
-        let x = card::wider(card::symbol(c, s + d));
+    for d in (0..u32::from(card::length(c, r))).rev() {
+        let x = u32::from(card::symbol(c, s + d));
         if x < t {
             return k;
         }
-        occur(w, k, card::wider(r), d, x - t);
+        occur(w, k, u32::from(r), d, x - t);
         k += 1;
         if transitions::shortest_length(w, x - t) != 0 {
             return k;
@@ -60,15 +46,12 @@ fn gather(c: &[u16], w: &mut [u32]) -> u32
     requires { (form_fault c.now ≡ 0) × (halves_size ≤ length w.old) × Gathered c.now (shortest_of w.old) w.old 0 (length_of c.now 0) 0 }
     ensures { Collected c.now w.old w.new result }
 {
-    let p = card::productions(c);
     let mut s: u32 = 0;
     let mut m: u32 = 0;
-    let mut r: u16 = 0;
-    while r < p {
-        transitions::put(w, transitions::STARTS_AT, card::wider(r), s);
+    for r in 0..card::productions(c) {
+        transitions::put(w, transitions::STARTS_AT, u32::from(r), s);
         m = tail(c, w, r, s, m);
-        s += card::wider(card::length(c, r));
-        r += 1;
+        s += u32::from(card::length(c, r));
     }
     m
 }
@@ -79,7 +62,7 @@ pub fn prepare(c: &[u16], w: &mut [u32], e: &[u16; 60])
     ensures { Prepared c.now e.now w.old w.new }
 {
     transitions::put_lengths(w, e);
-    clear(w, transitions::LASTS_AT, transitions::PRODUCTIONS_AT);
+    w[transitions::LASTS_AT..transitions::PRODUCTIONS_AT].fill(0);
     let m = gather(c, w);
     transitions::put(w, transitions::OCCURRENCES_AT, 0, m);
 }

@@ -1,7 +1,7 @@
 -- The edges of includes: the occurrences of one nonterminal, and for each the states from which it leads to a state.
 use mathlib.Core.Path.{◌≡◌, sym, ap, ◌∙◌, subst}
 use mathlib.Core.List.{List}
-use mathlib.Core.Bool.{true, false, not, ◌&&◌, false≢true, true≢false}
+use mathlib.Core.Bool.{not, ◌&&◌, false≢true}
 use mathlib.Core.Logic.{◌⊎◌, inl, inr, ⊎_elim}
 use Prim.Native.Nat.{ℕ, suc, ◌+◌, ◌-◌, ◌≤◌, ◌<◌}
 use native.Mathlib.Omega.{arith}
@@ -13,23 +13,17 @@ use Rattle.items.specs.Item.{item}
 use Rattle.grammar.specs.Card.{terminals, left_of}
 use Rattle.state_sets.specs.Words.{Lowest}
 use Rattle.state_sets.proofs.WordLaws.{out_in, out_or, out_less}
-use Rattle.transitions.specs.Places.{transition_limit}
+use Rattle.std.specs.Prelude.{None}
 use Rattle.transitions.specs.Area.{leaves_of, nonterminal_of, production_of, dot_of, link_of, last_of, occurrences_of, shortest_of}
 use Rattle.transitions.specs.Occurrences.{symbol_at, occurring_of, Latest, Occurs}
 use Rattle.transitions.specs.Data.{Ordered}
 use Rattle.relations.specs.Path.{Leads, States}
 use Rattle.relations.specs.Edge.{Includes}
-use Rattle.relations.specs.Walk.{Through, Remains, Stands, room_of, Firsts, Nexts}
+use Rattle.relations.specs.Walk.{Through, Remains, Stands, room_of, Firsts, Next}
 use Rattle.relations.specs.Walk.Remains.{now, later}
-use Rattle.relations.specs.Steps.{Opens, Index}
+use Rattle.relations.specs.Steps.{Opens, Leaves, Index}
 use Rattle.relations.specs.declared.Relation.TheVariants as relation
 use Rattle.relations.specs.declared.Cursor.{Cursor}
-
-pub opens_none : (c w : List ℕ) (q : ℕ) (s : List ℕ) → ((k : ℕ) → item s k ≡ false) → States s (Opens c w q 0)
-opens_none c w q s e = record { only = λ p l g. absurd (false≢true (sym (e p) ∙ g)); all = λ p l o. absurd (let z = o.some in let y : ⊥ = omega arith in y) }
-
-pub opens_some : (c w : List ℕ) (q a : ℕ) (s : List ℕ) → 0 < a → States s (Leads c w (production_of w (a - 1)) (dot_of w (a - 1)) q) → States s (Opens c w q a)
-opens_some c w q a s h S = record { only = λ p l g. record { some = h; leads = S.only p l g }; all = λ p l o. S.all p l o.leads }
 
 module _ (c w : List ℕ) (k x : ℕ) (O : Ordered c w k) where
   -- a cursor at the latest occurrence below m has those below m to give
@@ -87,18 +81,11 @@ module _ (c w : List ℕ) (k x : ℕ) (O : Ordered c w k) where
 pub occurs_at : (c w : List ℕ) (k a : ℕ) → Ordered c w k → (a ≡ 0 → ⊥) → a ≤ occurrences_of w → Occurs c (shortest_of w) (production_of w (a - 1)) (dot_of w (a - 1))
 occurs_at c w k a O n h = O.occurrences.occurs (a - 1) (omega arith)
 
--- and the next one before it
-pub link_below : (c w : List ℕ) (k a : ℕ) → Ordered c w k → (a ≡ 0 → ⊥) → a ≤ occurrences_of w → link_of w (a - 1) ≤ occurrences_of w
-link_below c w k a O n h = let l = (O.occurrences.link (a - 1) (omega arith)).most in omega arith
-
 -- the walk from the cursor at (a₀, s₀) has come to (a, s) with no edge lost
 pub record Reached (c w : List ℕ) (x a₀ : ℕ) (s₀ : List ℕ) (a : ℕ) (s : List ℕ) : Type 0 where
   pub stands : Stands c w x a s
   pub kept : (k y : ℕ) → Ordered c w k → y < k → Remains c w x a₀ s₀ y → Remains c w x a s y
   pub less : room_of relation.Includes w x a s ≤ room_of relation.Includes w x a₀ s₀
-
-pub reached_start : (c w : List ℕ) (x a : ℕ) (s : List ℕ) → Stands c w x a s → Reached c w x a s a s
-reached_start c w x a s S = record { stands = S; kept = λ k y O h r. r; less = omega arith }
 
 module _ (c w : List ℕ) (x a₀ : ℕ) (s₀ : List ℕ) (a : ℕ) (s : List ℕ) (R : Reached c w x a₀ s₀ a s) where
   pub reached_end : (k : ℕ) → Ordered c w k → a ≡ 0 → (y : ℕ) → y < k → Remains c w x a₀ s₀ y → ⊥
@@ -109,12 +96,10 @@ module _ (c w : List ℕ) (x a₀ : ℕ) (s₀ : List ℕ) (a : ℕ) (s : List �
       go (later o l e t) = omega arith
 
   -- a state of the set is taken
-  module _ (p : ℕ) (low : Lowest s p) (h : p < 256) (s' : List ℕ) (e : (k : ℕ) → item s' k ≡ (item s k && not (eqb p k)))
-      (y : ℕ) (I : (k : ℕ) → Ordered c w k → Index w k p (left_of c (production_of w (a - 1))) y) where
-    took : (k z : ℕ) → Ordered c w k → z < k → Remains c w x a s z → (z ≡ y) ⊎ Remains c w x a s' z
-    took k z O l (now g i f) =
-        ⊎_elim (λ (q : leaves_of w z ≡ p). inl ((I k O).all z l q (sym f))) (λ q. inr (now g q f)) (out_or s s' p (low.here h) e (leaves_of w z) i)
-    took k z O l (later o g f t) = inr (later o g f t)
+  module _ (p : ℕ) (low : Lowest s p) (h : p < 256) (s' : List ℕ) (e : (k : ℕ) → item s' k ≡ (item s k && not (eqb p k))) where
+    took : (z : ℕ) → Remains c w x a s z → ((leaves_of w z ≡ p) × (left_of c (production_of w (a - 1)) ≡ nonterminal_of w z)) ⊎ Remains c w x a s' z
+    took z (now g i f) = ⊎_elim (λ (q : leaves_of w z ≡ p). inl (q, f)) (λ q. inr (now g q f)) (out_or s s' p (low.here h) e (leaves_of w z) i)
+    took z (later o g f t) = inr (later o g f t)
 
     stays : Stands c w x a s'
     stays = record { within = R.stands.within; symbol = R.stands.symbol; members = λ q l g. R.stands.members q l (out_in s s' p (low.here h) e q g) }
@@ -123,38 +108,36 @@ module _ (c w : List ℕ) (x a₀ : ℕ) (s₀ : List ℕ) (a : ℕ) (s : List �
     unfolding room_of
     fewer = let n = out_less s s' p (low.here h) e 256 h in omega arith
 
-    pub reached_skip : transition_limit ≤ y → Reached c w x a₀ s₀ a s'
-    reached_skip g = record {
+    pub reached_skip : ((k : ℕ) → Ordered c w k → Index w k p (left_of c (production_of w (a - 1))) None) → Reached c w x a₀ s₀ a s'
+    reached_skip none = record {
       stands = stays;
-      kept = λ k z O l r. ⊎_elim (λ (q : z ≡ y). absurd (let f = O.few in let b : ⊥ = omega arith in b)) (λ q. q) (took k z O l (R.kept k z O l r));
+      kept = λ k z O l r. ⊎_elim (λ q. absurd (none k O z l q.0 (sym q.1))) (λ q. q) (took z (R.kept k z O l r));
       less = omega (arith, fewer, R.less);
     }
 
-    pub reached_found : (k : ℕ) → Ordered c w k → 0 < a → y < transition_limit → (cursor : Cursor) → cursor.at ≡ a₀ → cursor.set ≡ s₀
-        → Nexts relation.Includes c w k x cursor (record { more = true; node = y; cursor = record { at = a; set = s' } })
+    pub reached_found : (y k : ℕ) → Ordered c w k → Leaves w k p (left_of c (production_of w (a - 1))) y → 0 < a → (cursor : Cursor) → cursor.at ≡ a₀ → cursor.set ≡ s₀
+        → Next relation.Includes c w k x cursor (record { node = y; cursor = record { at = a; set = s' } })
     unfolding room_of occurring_of
-    reached_found k O g l cursor ea es =
-        let i = I k O in
+    reached_found y k O i g cursor ea es =
         let leads = (R.stands.members p h (low.here h)).1 in
         let last : a - 1 < occurrences_of w = omega (arith, R.stands.within) in
         record {
-          here = λ t. record {
-            inside = i.inside l;
+          here = record {
+            inside = i.inside;
             related = record {
               production = production_of w (a - 1);
               dot = dot_of w (a - 1);
               occurs = O.occurrences.occurs (a - 1) last;
               symbol = R.stands.symbol g;
-              left = sym (i.symbol l);
-              leads = subst (λ (q : ℕ). Leads c w (production_of w (a - 1)) (dot_of w (a - 1)) (leaves_of w x) q) (sym (i.leaves l)) leads;
+              left = sym i.symbol;
+              leads = subst (λ (q : ℕ). Leads c w (production_of w (a - 1)) (dot_of w (a - 1)) (leaves_of w x) q) (sym i.state) leads;
             };
           };
-          after = λ t z d.
-              ⊎_elim (λ q. inl q) (λ q. inr (record { inside = d.inside; remaining = q }))
-              (took k z O d.inside (R.kept k z O d.inside (rw (ea, es) at d.remaining)));
-          less = λ t. rw (ea, es) (omega (arith, fewer, R.less));
-          sound = λ t. stays;
-          none = λ t. absurd (true≢false t);
+          after = λ z d.
+              ⊎_elim (λ q. inl (i.only z d.inside q.0 (sym q.1))) (λ q. inr (record { inside = d.inside; remaining = q }))
+              (took z (R.kept k z O d.inside (rw (ea, es) at d.remaining)));
+          less = rw (ea, es) (omega (arith, fewer, R.less));
+          sound = stays;
         }
 
   -- the next occurrence

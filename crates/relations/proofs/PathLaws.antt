@@ -25,11 +25,6 @@ module _ {G : ℕ → ℕ → ℕ → Type 0} {f : ℕ → ℕ} {d q : ℕ} wher
   path_end (here e k) h = k
   path_end (step s g r) h = absurd (path_beyond r (omega arith))
 
--- one kind of transitions for another
-pub path_map : {G H : ℕ → ℕ → ℕ → Type 0} {f : ℕ → ℕ} {d q i p : ℕ} → ((p x s : ℕ) → G p x s → H p x s) → Path G f d q i p → Path H f d q i p
-path_map m (here e k) = here e k
-path_map m (step {i} {p} s g r) = step s (m p _ s g) (path_map m r)
-
 module _ (w : List ℕ) (f : ℕ → ℕ) (d q : ℕ) where
   -- a path that begins before dot j passes through a state there
   path_through : (j : ℕ) {i p : ℕ} → Path (Enters w) f d q i p → i < j → j ≤ d → (t : ℕ) × (t < 256) × Path (Enters w) f d q j t
@@ -45,9 +40,6 @@ module _ (w : List ℕ) (f : ℕ → ℕ) (d q : ℕ) where
     only = λ p l g. ⊎_elim (λ z. absurd (false≢true (sym (none p) ∙ z))) (λ z. here refl (sym (eqb-true q p z))) (or_cases (item s p) (eqb q p) (sym (one p) ∙ g));
     all = λ p l r. one p ∙ or_right (item s p) (eqb q p) (eq-eqb q p (sym (path_end r refl)));
   }
-
-  pub back_end : (i : ℕ) (s : List ℕ) → i ≤ 0 → States s (Path (Enters w) f d q i) → States s (Path (Enters w) f d q 0)
-  back_end i s h S = let e : i ≡ 0 = omega arith in rw e at S
 
   -- no state is left, so no path comes from before
   pub back_stop : (i v : ℕ) (s : List ℕ) → 0 < i → i ≤ d → Lowest s v → v ≡ 256 → States s (Path (Enters w) f d q i) → States s (Path (Enters w) f d q 0)

@@ -1,7 +1,6 @@
 -- What the parts of a walk along edges give.
-use Rattle.std.specs.Prelude.{ℕ, ◌-◌, ◌<◌, ◌≡◌, ◌⊎◌, true, List}
+use Rattle.std.specs.Prelude.{ℕ, ◌-◌, ◌<◌, ◌≡◌, ◌⊎◌, true, List, Option, Some, None}
 use Rattle.items.specs.Item.{item}
-use Rattle.transitions.specs.Places.{transition_limit}
 use Rattle.transitions.specs.Area.{leaves_of, nonterminal_of, production_of, dot_of}
 use Rattle.transitions.specs.Data.{Enters}
 use Rattle.relations.specs.Path.{Leads}
@@ -23,9 +22,14 @@ pub record Opens (c w : List ℕ) (q a p : ℕ) : Type 0 where
   pub some : 0 < a
   pub leads : Leads c w (production_of w (a - 1)) (dot_of w (a - 1)) q p
 
--- r is the number of the transition from p by x, one of k, or it is the limit and there is none
-pub record Index (w : List ℕ) (k p x r : ℕ) : Type 0 where
-  pub inside : r < transition_limit → r < k
-  pub leaves : r < transition_limit → leaves_of w r ≡ p
-  pub symbol : r < transition_limit → nonterminal_of w r ≡ x
-  pub all : (y : ℕ) → y < k → leaves_of w y ≡ p → nonterminal_of w y ≡ x → y ≡ r
+-- transition r is the one of k from p by x
+pub record Leaves (w : List ℕ) (k p x r : ℕ) : Type 0 where
+  pub inside : r < k
+  pub state : leaves_of w r ≡ p
+  pub symbol : nonterminal_of w r ≡ x
+  pub only : (y : ℕ) → y < k → leaves_of w y ≡ p → nonterminal_of w y ≡ x → y ≡ r
+
+-- what is found is the number of the transition from p by x, one of k, or that there is none
+abbrev pub Index : List ℕ → ℕ → ℕ → ℕ → Option ℕ → Type 0
+Index w k p x (Some r) = Leaves w k p x r
+Index w k p x None = (y : ℕ) → y < k → leaves_of w y ≡ p → nonterminal_of w y ≡ x → ⊥

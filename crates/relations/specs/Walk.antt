@@ -1,5 +1,5 @@
 -- A walk along the edges of a node: what a cursor has still to give.
-use Rattle.std.specs.Prelude.{ℕ, ◌+◌, ◌-◌, ◌*◌, ◌≤◌, ◌<◌, ◌≡◌, ◌⊎◌, true, false, List}
+use Rattle.std.specs.Prelude.{ℕ, ◌+◌, ◌-◌, ◌*◌, ◌≤◌, ◌<◌, ◌≡◌, ◌⊎◌, true, List, Option, Some, None}
 use Rattle.sets.specs.Bit.{count}
 use Rattle.items.specs.Item.{item}
 use Rattle.grammar.specs.Card.{left_of}
@@ -70,10 +70,14 @@ pub record Firsts (r : Relation) (c w : List ℕ) (k x : ℕ) (cursor : Cursor) 
   pub sound : Sound r c w x cursor
   pub all : (y : ℕ) → Edge r c w k x y → Left r c w k x cursor y
 
--- what is found is the next edge that the cursor gives, with the cursor behind it, or that there is no more
-pub record Nexts (r : Relation) (c w : List ℕ) (k x : ℕ) (cursor : Cursor) (found : Found) : Type 0 where
-  pub here : found.more ≡ true → Edge r c w k x found.node
-  pub after : found.more ≡ true → (y : ℕ) → Left r c w k x cursor y → (y ≡ found.node) ⊎ Left r c w k x found.cursor y
-  pub less : found.more ≡ true → room r w x found.cursor < room r w x cursor
-  pub sound : found.more ≡ true → Sound r c w x found.cursor
-  pub none : found.more ≡ false → (y : ℕ) → Left r c w k x cursor y → ⊥
+-- what is found is the next edge that the cursor gives, with the cursor behind it
+pub record Next (r : Relation) (c w : List ℕ) (k x : ℕ) (cursor : Cursor) (found : Found) : Type 0 where
+  pub here : Edge r c w k x found.node
+  pub after : (y : ℕ) → Left r c w k x cursor y → (y ≡ found.node) ⊎ Left r c w k x found.cursor y
+  pub less : room r w x found.cursor < room r w x cursor
+  pub sound : Sound r c w x found.cursor
+
+-- or that there is no more
+abbrev pub Nexts : Relation → List ℕ → List ℕ → ℕ → ℕ → Cursor → Option Found → Type 0
+Nexts r c w k x cursor (Some found) = Next r c w k x cursor found
+Nexts r c w k x cursor None = (y : ℕ) → Left r c w k x cursor y → ⊥

@@ -24,9 +24,9 @@ pub struct Cursor {
     pub set: [u64; 4],
 }
 
+// An edge to `node`, and the place behind it.
 #[derive(Clone, Copy)]
 pub struct Found {
-    pub more: bool,
     pub node: u32,
     pub cursor: Cursor,
 }
@@ -40,10 +40,8 @@ fn join_predecessors(w: &[u32], s: [u64; 4], x: u32, q: u32) -> [u64; 4]
         return s;
     }
     let mut t = s;
-    let mut j: usize = 0;
-    while j < 4 {
-        t[j] = t[j] | transitions::predecessors(w, q, j);
-        j += 1;
+    for j in 0..4 {
+        t[j] |= transitions::predecessors(w, q, j);
     }
     t
 }
@@ -56,8 +54,8 @@ fn predecessors(w: &[u32], s: [u64; 4], x: u32) -> [u64; 4]
     let mut t = state_sets::empty();
     let mut q = state_sets::lowest(s);
     while q < 256 {
-        let u = join_predecessors(w, t, x, q);
-        t = u;
+        let more = join_predecessors(w, t, x, q);
+        t = more;
         let rest = state_sets::without(left, q);
         left = rest;
         q = state_sets::lowest(rest);
@@ -72,79 +70,59 @@ pub fn back(c: &[u16], w: &[u32], q: u32, r: u32, d: u32) -> [u64; 4]
 {
     let b = transitions::starting(w, r);
     let mut s = state_sets::with(state_sets::empty(), q);
-    let mut i = d;
-    while 0 < i {
+    for i in (0..d).rev() {
         if state_sets::lowest(s) == 256 {
             return s;
         }
-        i -= 1;
-        let t = predecessors(w, s, card::wider(card::symbol(c, b + i)));
+        let t = predecessors(w, s, u32::from(card::symbol(c, b + i)));
         s = t;
     }
     s
 }
 
-// The number of the transition from state p by the nonterminal x, or the limit where there is none.
-pub fn index(w: &[u32], p: u32, x: u32) -> u32
+// The number of the transition from state p by the nonterminal x, where there is one.
+pub fn index(w: &[u32], p: u32, x: u32) -> Option<u32>
     requires { p < 256 }
     ensures { (c : List ℕ) (k : ℕ) → Ordered c w.now k → Index w.now k p x result }
 {
+    let start = transitions::first(w, p);
     let end = transitions::first(w, p + 1);
-    let mut i = transitions::first(w, p);
-    while i < end {
-        if transitions::nonterminal(w, i) == x {
-            return i;
-        }
-        i += 1;
-    }
-    transitions::LIMIT
+    (start..end).find(|i| transitions::nonterminal(w, *i) == x)
 }
 
 // Whether x is a nullable nonterminal: one whose shortest length is 0.
 fn nullable(c: &[u16], w: &[u32], x: u32) -> bool
     ensures { Tells result (Nullable c.now (shortest_of w.now) x) }
 {
-    let t = card::wider(card::terminals(c));
-    if x < t {
-        return false;
-    }
-    transitions::shortest_length(w, x - t) == 0
+    let t = u32::from(card::terminals(c));
+    x >= t && transitions::shortest_length(w, x - t) == 0
 }
 
 fn first_reads(w: &[u32], x: u32) -> Cursor
     ensures { (c : List ℕ) (k : ℕ) → Ordered c w.now k → x < k → Firsts Relation.Reads c w.now k x result }
 {
-    let at = transitions::first(w, transitions::enters(w, x));
-    let set = state_sets::empty();
-    Cursor { at: at, set: set }
+    Cursor {
+        at: transitions::first(w, transitions::enters(w, x)),
+        set: state_sets::empty(),
+    }
 }
 
-fn next_reads(c: &[u16], w: &[u32], x: u32, cursor: Cursor) -> Found
+fn next_reads(c: &[u16], w: &[u32], x: u32, cursor: Cursor) -> Option<Found>
     requires { Standing Relation.Reads c.now w.now x cursor }
     ensures { (k : ℕ) → Ordered c.now w.now k → Nexts Relation.Reads c.now w.now k x cursor result }
 {
     let end = transitions::first(w, transitions::enters(w, x) + 1);
     let set = cursor.set;
-    let mut i = cursor.at;
-    while i < end {
+    for i in cursor.at..end {
         if nullable(c, w, transitions::nonterminal(w, i)) {
-            let next = Cursor {
-                at: i + 1,
-                set: set,
-            };
-            return Found {
-                more: true,
+            let rest = Cursor { at: i + 1, set };
+            return Some(Found {
                 node: i,
-                cursor: next,
-            };
+                cursor: rest,
+            });
         }
-        i += 1;
     }
-    Found {
-        more: false,
-        node: 0,
-        cursor: cursor,
-    }
+    None
 }
 
 // The states from which occurrence a - 1 leads to state q; none where a is 0.
@@ -168,13 +146,13 @@ fn first_includes(c: &[u16], w: &[u32], x: u32) -> Cursor
     requires { Node c.now w.now x }
     ensures { (k : ℕ) → Ordered c.now w.now k → Firsts Relation.Includes c.now w.now k x result }
 {
-    let t = card::wider(card::terminals(c));
+    let t = u32::from(card::terminals(c));
     let at = transitions::last(w, transitions::nonterminal(w, x) - t);
     let set = opened(c, w, transitions::leaves(w, x), at);
-    Cursor { at: at, set: set }
+    Cursor { at, set }
 }
 
-fn next_includes(c: &[u16], w: &[u32], x: u32, cursor: Cursor) -> Found
+fn next_includes(c: &[u16], w: &[u32], x: u32, cursor: Cursor) -> Option<Found>
     requires { Standing Relation.Includes c.now w.now x cursor }
     ensures { (k : ℕ) → Ordered c.now w.now k → Nexts Relation.Includes c.now w.now k x cursor result }
 {
@@ -185,31 +163,22 @@ fn next_includes(c: &[u16], w: &[u32], x: u32, cursor: Cursor) -> Found
         let p = state_sets::lowest(set);
         if p < 256 {
             let rest = state_sets::without(set, p);
-            let y = index(
-                w,
-                p,
-                card::wider(card::left(c, transitions::production(w, at - 1) as u16)),
-            );
-            if y < transitions::LIMIT {
-                let next = Cursor { at: at, set: rest };
-                return Found {
-                    more: true,
+            set = rest;
+            let left = card::left(c, transitions::production(w, at - 1) as u16);
+            if let Some(y) = index(w, p, u32::from(left)) {
+                let next = Cursor { at, set: rest };
+                return Some(Found {
                     node: y,
                     cursor: next,
-                };
+                });
             }
-            set = rest;
         } else {
             at = transitions::link(w, at - 1);
             let whole = opened(c, w, q, at);
             set = whole;
         }
     }
-    Found {
-        more: false,
-        node: 0,
-        cursor: cursor,
-    }
+    None
 }
 
 // The cursor before all edges of x.
@@ -224,7 +193,7 @@ pub fn first_edge(relation: Relation, c: &[u16], w: &[u32], x: u32) -> Cursor
 }
 
 // The next edge of x that the cursor gives.
-pub fn next_edge(relation: Relation, c: &[u16], w: &[u32], x: u32, cursor: Cursor) -> Found
+pub fn next_edge(relation: Relation, c: &[u16], w: &[u32], x: u32, cursor: Cursor) -> Option<Found>
     requires { Standing relation c.now w.now x cursor }
     ensures { (k : ℕ) → Ordered c.now w.now k → Nexts relation c.now w.now k x cursor result }
 {

@@ -1,28 +1,27 @@
 -- A row of the table, cell by cell.
-use mathlib.Core.Bool.{cond, false≢true}
+use mathlib.Core.Bool.{false≢true}
 use mathlib.Core.List.{List, [], ◌∷◌, ◌++◌}
 use mathlib.Core.Logic.{⊎_elim}
 use mathlib.Core.Path.{◌≡◌, refl, sym, ap, ◌∙◌}
-use Prim.Native.Nat.{ℕ, zero, suc, ◌+◌, ◌*◌, ◌^◌, ◌≤◌, ◌<◌}
+use Prim.Native.Nat.{ℕ, zero, suc, ◌+◌, ◌*◌, ◌^◌, ◌≤◌, ◌<◌, max}
 use native.Mathlib.Nat.{add-zero, le_refl}
 use native.Mathlib.Numerals.{add-one}
 use native.Mathlib.Omega.{arith}
-use lib.Dec.{eqb}
 use lib.ListN.{length, get_or, set, length-set}
 use lib.Seq.{get_or-set_same, get_or-set_other}
-use borrow.Author.Tests.{eq-eqb, ne_eqb}
+use Rattle.std.specs.Prelude.{Option, Some, None}
 use Rattle.closures.proofs.AfterLaws.{stays}
 use Rattle.closures.proofs.AreaLaws.{kept_same, kept_then}
-use Rattle.closures.specs.Areas.{closures_at, masks_at, slot_count, slots_end, slot, Kept, Prepared, Added}
+use Rattle.closures.specs.Areas.{closures_at, masks_at, slot_count, slots_end, slot, Prepared, Added}
 use Rattle.closures.specs.Sets.{Goes, Alike, Afters}
 use Rattle.grammar.specs.Card.{terminals, nonterminals}
 use Rattle.items.proofs.AreaLaws.{not_same}
 use Rattle.items.proofs.ItemLaws.{Words}
-use Rattle.items.specs.Item.{set_size, item_limit, item, Next}
+use Rattle.items.specs.Item.{set_size, item_limit, item}
 use Rattle.sets.proofs.HasLaws.{lt_or_ge}
 use Rattle.sets.proofs.ListLaws.{each_same}
 use Rattle.sets.specs.Lists.{each}
-use Rattle.states.specs.Places.{Candidate, Placed, found, fresh, crowded, Target, Skipped}
+use Rattle.states.specs.Places.{Placed, found, fresh, crowded, Target, Skipped}
 use Rattle.states.specs.States.{Cell, vacant, leads, Apart, Row, Crowd}
 use Rattle.lr.specs.States.{Given}
 
@@ -65,85 +64,15 @@ pub record Passed (z : List ℕ) (p k v q : ℕ) : Type 0 where
   pub least : p ≤ q
   pub gap : (j : ℕ) → p ≤ j → j < q → get_or z (j * set_size + k) 0 ≡ v → ⊥
 
-pub passed_start : (z : List ℕ) (p k v : ℕ) → Passed z p k v p
-passed_start z p k v = record { least = le_refl p; gap = λ j h g. absurd (let y : ⊥ = omega arith in y) }
-
-pub passed_more : (z : List ℕ) (p k v q i m : ℕ) → Passed z p k v q → (get_or z i 0 ≡ v → ⊥) → i ≡ q * set_size + k → m ≡ q + 1 → Passed z p k v m
-passed_more z p k v q i m s n e f =
-    let l : p ≤ q = s.least in
-    record {
-      least = omega arith;
-      gap = λ j h g. ⊎_elim (λ (d : j < q). s.gap j h d) (λ (d : q ≤ j). let y : j * set_size + k ≡ i = omega arith in λ u. n (ap (λ (x : ℕ). get_or z x 0) (sym y) ∙ u)) (lt_or_ge j q);
-    }
-
--- up to four of them, one after another
-module _ (z : List ℕ) (p k v q m : ℕ) (s : Passed z p k v q) (n₀ : get_or z (q * set_size + k) 0 ≡ v → ⊥) where
-  pub passed_one : m ≡ q + 1 → Passed z p k v m
-  passed_one e = passed_more z p k v q (q * set_size + k) m s n₀ refl e
-
-  one : Passed z p k v (q + 1)
-  one = passed_more z p k v q (q * set_size + k) (q + 1) s n₀ refl refl
-
-  module _ (n₁ : get_or z (q * set_size + k + set_size) 0 ≡ v → ⊥) where
-    two : Passed z p k v (q + 2)
-    two = passed_more z p k v (q + 1) (q * set_size + k + set_size) (q + 2) one n₁ (omega arith) (omega arith)
-
-    pub passed_two : m ≡ q + 2 → Passed z p k v m
-    passed_two e = rw e two
-
-    module _ (n₂ : get_or z (q * set_size + k + 2 * set_size) 0 ≡ v → ⊥) where
-      three : Passed z p k v (q + 3)
-      three = passed_more z p k v (q + 2) (q * set_size + k + 2 * set_size) (q + 3) two n₂ (omega arith) (omega arith)
-
-      pub passed_three : m ≡ q + 3 → Passed z p k v m
-      passed_three e = rw e three
-
-      pub passed_four : (get_or z (q * set_size + k + 3 * set_size) 0 ≡ v → ⊥) → m ≡ q + 4 → Passed z p k v m
-      passed_four n₃ e = passed_more z p k v (q + 3) (q * set_size + k + 3 * set_size) m three n₃ (omega arith) (omega arith)
-
-pub candidate_of : (z : List ℕ) (n p k v q : ℕ) → Passed z p k v q → q ≤ n → Candidate z n p k v q
-candidate_of z n p k v q s h = record { most = h; least = s.least; gap = s.gap }
-
 -- one with another word is another set
 pub other_word : (z s : List ℕ) (q k : ℕ) → q * set_size + set_size ≤ length z → length s ≡ set_size → ((j : ℕ) → get_or z (q * set_size + j) 0 < 2 ^ 64) → Words s → k < set_size → (get_or z (q * set_size + k) 0 ≡ get_or s k 0 → ⊥) → Alike (slot z q) s → ⊥
 other_word z s q k room l f g h n a = false≢true ((not_same z (q * set_size) s room l f g k h n).items.so a)
 
--- ---- cells that are 0
-
--- the cells of the symbols from x up to k are 0, all others as in t₀
-pub record Zeros (t₀ : List ℕ) (at x k : ℕ) (t : List ℕ) : Type 0 where
-  pub least : x ≤ k
-  pub zeros : (j : ℕ) → x ≤ j → j < k → get_or t (at + j) 0 ≡ 0
-  pub low : (j : ℕ) → j < at + x → get_or t j 0 ≡ get_or t₀ j 0
-  pub high : Kept t₀ (at + k) t
-  pub long : length t ≡ length t₀
-
-pub zeros_start : (t : List ℕ) (at x : ℕ) → Zeros t at x x t
-zeros_start t at x = record { least = le_refl x; zeros = λ j h g. absurd (let v : ⊥ = omega arith in v); low = λ j h. refl; high = kept_same t (at + x); long = refl }
-
-pub zeros_more : (t₀ : List ℕ) (at x k : ℕ) (t : List ℕ) → Zeros t₀ at x k t → at + k < length t → Zeros t₀ at x (k + 1) (set t (at + k) 0)
-zeros_more t₀ at x k t p b =
-    let le : x ≤ k = p.least in
-    record {
-      least = omega arith;
-      zeros = λ j h g.
-          ⊎_elim (λ (d : j < k). get_or-set_other t (at + k) (at + j) 0 0 (λ e. omega arith) ∙ p.zeros j h d)
-          (λ (d : k ≤ j). let e : j ≡ k = omega arith in rw e (get_or-set_same t (at + k) 0 0 b)) (lt_or_ge j k);
-      low = λ j h. get_or-set_other t (at + k) j 0 0 (λ e. omega arith) ∙ p.low j h;
-      high = record { kept = λ j h. get_or-set_other t (at + k) j 0 0 (λ e. omega arith) ∙ p.high.kept j (omega arith) };
-      long = simp length-set p.long;
-    }
-
-pub skipped : (t₀ : List ℕ) (at x end : ℕ) (a t : List ℕ) (y m : ℕ) → end ≤ item_limit → Next a x m → y ≤ m → y ≤ end → (y < end → y ≡ m) → Zeros t₀ at x y t → Skipped t₀ at x end a t y
-skipped t₀ at x end a t y m b q l h e p = record {
-  least = p.least;
-  most = h;
-  here = λ g. let v : y ≡ m = e g in rw v (q.here (omega arith));
-  gap = λ k d g. q.gap k d (omega arith);
-  zeros = p.zeros;
-  low = p.low;
-  high = p.high;
-}
+-- none of the states below q is s: those below `from` are not, and the others have another word k
+pub none_before : (z s : List ℕ) (k n from q : ℕ) → n * set_size ≤ length z → length s ≡ set_size → ((j : ℕ) → get_or z j 0 < 2 ^ 64) → Words s → k < set_size → q ≤ n
+    → ((p : ℕ) → p < from → Alike (slot z p) s → ⊥) → ((p : ℕ) → from ≤ p → p < q → get_or z (p * set_size + k) 0 ≡ get_or s k 0 → ⊥) → (p : ℕ) → p < q → Alike (slot z p) s → ⊥
+none_before z s k n from q room l f g h b old gap p d =
+    ⊎_elim (old p) (λ (e : from ≤ p). other_word z s p k (omega arith) l (λ j. f (p * set_size + j)) g h (gap p e d)) (lt_or_ge p from)
 
 -- ---- states put down
 
@@ -269,28 +198,35 @@ module _ (c s z₀ : List ℕ) (n₀ : ℕ) (t₀ : List ℕ) (at : ℕ) where
     wide = r.wide;
   }
 
-  pub row_step : (z y : List ℕ) (n : ℕ) (t : List ℕ) (x p m v : ℕ) → Row c s z₀ n₀ t₀ at z n t x → terminals c + nonterminals c ≤ 124 → nonterminals c ≤ 60 → 0 < x → at + x < length t → Target c s x z n y p → (p ≡ 256 → ⊥)
-      → length y ≡ length z → m ≡ cond (eqb p n) (n + 1) n → v ≡ p → Row c s z₀ n₀ t₀ at y m (set t (at + x) v) (x + 1)
-  row_step z y n t x p m v r w nm px b tg ne l em ev = rw (em, ev) (placed tg.set tg.goes tg.placed ne l)
+  pub row_step : (z y : List ℕ) (n : ℕ) (t : List ℕ) (x p m : ℕ) → Row c s z₀ n₀ t₀ at z n t x → terminals c + nonterminals c ≤ 124 → nonterminals c ≤ 60 → 0 < x → at + x < length t → Target c s x z n y (Some p)
+      → length y ≡ length z → m ≡ max n (p + 1) → Row c s z₀ n₀ t₀ at y m (set t (at + x) p) (x + 1)
+  row_step z y n t x p m r w nm px b tg l em = rw em (placed tg.set tg.goes tg.placed refl l)
     where
-      placed : {y : List ℕ} {p : ℕ} (u : List ℕ) → Goes c s x u → Placed z n u y p → (p ≡ 256 → ⊥) → length y ≡ length z
-          → Row c s z₀ n₀ t₀ at y (cond (eqb p n) (n + 1) n) (set t (at + x) p) (x + 1)
-      placed u g (found p h f) ne l = rw (ne_eqb p n (λ e. omega arith)) (row_known z n t x p r px b h (leads p h (goes_to c s (slot z p) u x f g)))
-      placed u g (fresh y h f ad) ne l = rw (eq-eqb n n refl) (row_new z y n t x u r w nm px b h f ad l g)
-      placed u g (crowded h f) ne l = absurd (ne h)
+      placed : {y : List ℕ} {o : Option ℕ} {p : ℕ} (u : List ℕ) → Goes c s x u → Placed z n u y o → o ≡ Some p → length y ≡ length z
+          → Row c s z₀ n₀ t₀ at y (max n (p + 1)) (set t (at + x) p) (x + 1)
+      placed {p} u g (found q h f) e l =
+          let v : q ≡ p = cc in
+          let k : p < n = omega arith in
+          let k' : max n (p + 1) ≡ n = omega arith in
+          rw k' (row_known z n t x p r px b k (leads p k (goes_to c s (slot z p) u x (rw v at f) g)))
+      placed {p} u g (fresh y h f ad) e l =
+          let v : n ≡ p = cc in
+          let k : max n (n + 1) ≡ n + 1 = omega arith in
+          rw (sym v, k) (row_new z y n t x u r w nm px b h f ad l g)
+      placed u g (crowded h f) e l = cc
 
-  pub row_stop : (z y : List ℕ) (n : ℕ) (t : List ℕ) (x p : ℕ) → Row c s z₀ n₀ t₀ at z n t x → 0 < x → x < terminals c + nonterminals c → Target c s x z n y p → p ≡ 256 → Crowd c s z₀ n₀ t₀ at y t
-  row_stop z y n t x p r px hx tg ep = placed tg.set tg.goes tg.placed ep
+  pub row_stop : (z y : List ℕ) (n : ℕ) (t : List ℕ) (x : ℕ) → Row c s z₀ n₀ t₀ at z n t x → 0 < x → x < terminals c + nonterminals c → Target c s x z n y None → Crowd c s z₀ n₀ t₀ at y t
+  row_stop z y n t x r px hx tg = placed tg.set tg.goes tg.placed refl
     where
-      placed : {y : List ℕ} {p : ℕ} (u : List ℕ) → Goes c s x u → Placed z n u y p → p ≡ 256 → Crowd c s z₀ n₀ t₀ at y t
-      placed u g (found p h f) ep = absurd (let m = r.most in omega arith)
-      placed u g (fresh y h f ad) ep = absurd (omega arith)
-      placed u g (crowded h f) ep = record { symbol = x; above = px; below = hx; new = u; row = rw h at r; goes = g; none = rw h at f }
+      placed : {y : List ℕ} {o : Option ℕ} (u : List ℕ) → Goes c s x u → Placed z n u y o → o ≡ None → Crowd c s z₀ n₀ t₀ at y t
+      placed u g (found p h f) e = cc
+      placed u g (fresh y h f ad) e = cc
+      placed u g (crowded h f) e = record { symbol = x; above = px; below = hx; new = u; row = rw h at r; goes = g; none = rw h at f }
 
-  pub target_low : (z y : List ℕ) (n x p : ℕ) → n ≤ 256 → Target c s x z n y p → p ≤ 256
-  target_low z y n x p b tg = go tg.placed
+  pub target_low : (z y : List ℕ) (n x p : ℕ) → n ≤ 256 → Target c s x z n y (Some p) → p < 256
+  target_low z y n x p b tg = go tg.placed refl
     where
-      go : {y : List ℕ} {p : ℕ} {u : List ℕ} → Placed z n u y p → p ≤ 256
-      go (found p h f) = omega arith
-      go (fresh _ h f ad) = omega arith
-      go (crowded h f) = b
+      go : {y : List ℕ} {o : Option ℕ} {u : List ℕ} → Placed z n u y o → o ≡ Some p → p < 256
+      go (found q h f) e = let v : q ≡ p = cc in omega arith
+      go (fresh _ h f ad) e = let v : n ≡ p = cc in omega arith
+      go (crowded h f) e = cc

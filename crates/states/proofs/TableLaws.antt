@@ -9,6 +9,7 @@ use native.Mathlib.Omega.{arith}
 use lib.ListN.{length, get_or, set, length-set}
 use lib.Seq.{get_or-set_other}
 use borrow.Author.Tests.{lt-ltb, le-ltb}
+use Rattle.std.specs.Prelude.{Option, Some, None}
 use Rattle.closures.proofs.AreaLaws.{kept_same, kept_then}
 use Rattle.closures.specs.Areas.{slots_end, slot, Kept, Prepared}
 use Rattle.closures.specs.Numbers.{first_of}
@@ -111,13 +112,19 @@ module _ (c z₀ t₀ z y : List ℕ) (n m : ℕ) (t u : List ℕ) (q : ℕ) (f 
     wide = r.wide ∙ T.wide;
   }
 
-pub rowed_whole : (c s z₀ : List ℕ) (n₀ : ℕ) (t₀ : List ℕ) (at : ℕ) (z t : List ℕ) (r : ℕ) → Rowed c s z₀ n₀ t₀ at z t r → (r ≡ 257 → ⊥) → Row c s z₀ n₀ t₀ at z r t (terminals c + nonterminals c)
-rowed_whole c s z₀ n₀ t₀ at z t _ (whole n r) h = r
-rowed_whole c s z₀ n₀ t₀ at z t _ (stopped x) h = absurd (h refl)
+pub rowed_whole : (c s z₀ : List ℕ) (n₀ : ℕ) (t₀ : List ℕ) (at : ℕ) (z t : List ℕ) (n : ℕ) → Rowed c s z₀ n₀ t₀ at z t (Some n) → Row c s z₀ n₀ t₀ at z n t (terminals c + nonterminals c)
+rowed_whole c s z₀ n₀ t₀ at z t n h = go h refl
+  where
+    go : {o : Option ℕ} → Rowed c s z₀ n₀ t₀ at z t o → o ≡ Some n → Row c s z₀ n₀ t₀ at z n t (terminals c + nonterminals c)
+    go (whole m r) e = let v : m ≡ n = cc in rw v at r
+    go (stopped x) e = cc
 
-pub rowed_stopped : (c s z₀ : List ℕ) (n₀ : ℕ) (t₀ : List ℕ) (at : ℕ) (z t : List ℕ) (r : ℕ) → Rowed c s z₀ n₀ t₀ at z t r → r ≡ 257 → Crowd c s z₀ n₀ t₀ at z t
-rowed_stopped c s z₀ n₀ t₀ at z t _ (whole n r) h = absurd (let m = r.most in omega arith)
-rowed_stopped c s z₀ n₀ t₀ at z t _ (stopped x) h = x
+pub rowed_stopped : (c s z₀ : List ℕ) (n₀ : ℕ) (t₀ : List ℕ) (at : ℕ) (z t : List ℕ) → Rowed c s z₀ n₀ t₀ at z t None → Crowd c s z₀ n₀ t₀ at z t
+rowed_stopped c s z₀ n₀ t₀ at z t h = go h refl
+  where
+    go : {o : Option ℕ} → Rowed c s z₀ n₀ t₀ at z t o → o ≡ None → Crowd c s z₀ n₀ t₀ at z t
+    go (whole m r) e = cc
+    go (stopped x) e = x
 
 -- ---- the whole
 
@@ -139,15 +146,15 @@ table_from c z₀ z₁ t₀ z n t q k e T = record {
   wide = T.wide ∙ e;
 }
 
-stated_from : (c z₀ z₁ t₀ z t : List ℕ) (r : ℕ) → Kept z₀ slots_end z₁ → length z₁ ≡ length z₀ → Stated c z₁ t₀ z t r → Stated c z₀ t₀ z t r
+stated_from : (c z₀ z₁ t₀ z t : List ℕ) (r : Option ℕ) → Kept z₀ slots_end z₁ → length z₁ ≡ length z₀ → Stated c z₁ t₀ z t r → Stated c z₀ t₀ z t r
 stated_from c z₀ z₁ t₀ z t _ k e (finished n T) = finished n (table_from c z₀ z₁ t₀ z n t n k e T)
 stated_from c z₀ z₁ t₀ z t _ k e (beyond z₂ n t₁ q T h x) = beyond z₂ n t₁ q (table_from c z₀ z₁ t₀ z₂ n t₁ q k e T) h x
 
-sets_kept : (c z₀ t₀ z t : List ℕ) (r : ℕ) → Stated c z₀ t₀ z t r → Kept z₀ slots_end z
+sets_kept : (c z₀ t₀ z t : List ℕ) (r : Option ℕ) → Stated c z₀ t₀ z t r → Kept z₀ slots_end z
 sets_kept c z₀ t₀ z t _ (finished n T) = T.behind
 sets_kept c z₀ t₀ z t _ (beyond z₁ n t₁ q T h x) = kept_then T.behind x.row.behind (le_refl slots_end)
 
-table_kept : (c z₀ t₀ z t : List ℕ) (r : ℕ) → WellFormed c → Stated c z₀ t₀ z t r → Kept t₀ table_size t
+table_kept : (c z₀ t₀ z t : List ℕ) (r : Option ℕ) → WellFormed c → Stated c z₀ t₀ z t r → Kept t₀ table_size t
 table_kept c z₀ t₀ z t _ f (finished n T) = kept_then (kept_same t₀ table_size) T.high (end n T.some T.most)
   where
     end : (n : ℕ) → 0 < n → n ≤ 256 → row_of c n ≤ table_size
@@ -160,7 +167,7 @@ table_kept c z₀ t₀ z t _ f (beyond z₁ n t₁ q T h x) =
           x.row.high.kept k (omega (arith, x.below)) ∙ get_or-set_other t₁ (row_of c q) k 0 0 (λ e. omega (arith, x.below)) ∙ T.high.kept k (omega (arith, x.below));
     }
 
-pub built : (c t₀ z₀ z₁ w₀ t z w : List ℕ) (r : ℕ) → WellFormed c → Kept z₀ slots_end z₁ → length z₁ ≡ length z₀ → Stated c z₁ t₀ z t r → Kept w₀ item_limit w → Built c t₀ z₀ w₀ t z w r
+pub built : (c t₀ z₀ z₁ w₀ t z w : List ℕ) (r : Option ℕ) → WellFormed c → Kept z₀ slots_end z₁ → length z₁ ≡ length z₀ → Stated c z₁ t₀ z t r → Kept w₀ item_limit w → Built c t₀ z₀ w₀ t z w r
 built c t₀ z₀ z₁ w₀ t z w r f k e s kw =
     let u = stated_from c z₀ z₁ t₀ z t r k e s in
     record { stated = u; table_kept = table_kept c z₀ t₀ z t r f u; sets_kept = sets_kept c z₀ t₀ z t r u; words_kept = kw }

@@ -1,6 +1,6 @@
 -- The states by number and their transitions: "A state is the set of its items. State 0 holds the added rule's first item. States are taken in
 -- number order and symbols in ascending order; a new set gets the next number."
-use Rattle.std.specs.Prelude.{cond, List, [], ◌∷◌, ◌≡◌, ℕ, ◌+◌, ◌≤◌, ◌<◌, ltb, length, get_or, set}
+use Rattle.std.specs.Prelude.{cond, List, [], ◌∷◌, ◌≡◌, ℕ, ◌+◌, ◌≤◌, ◌<◌, ltb, length, get_or, set, Option, Some, None}
 use Rattle.closures.specs.Areas.{slots_end, slot, Kept, Prepared}
 use Rattle.closures.specs.Sets.{Stays, Goes, Start, Alike}
 use Rattle.grammar.specs.Card.{terminals, nonterminals, grammar_of}
@@ -49,10 +49,10 @@ pub record Crowd (c s z₀ : List ℕ) (n₀ : ℕ) (t₀ : List ℕ) (at : ℕ)
   pub goes : Goes c s symbol new
   pub none : (q : ℕ) → q < 256 → Alike (slot z q) new → ⊥
 
--- how a row ends: the number of states now, or 257 where more than 256 are needed
-pub data Rowed (c s z₀ : List ℕ) (n₀ : ℕ) (t₀ : List ℕ) (at : ℕ) (z t : List ℕ) : ℕ → Type 0 where
-  whole : (n : ℕ) → Row c s z₀ n₀ t₀ at z n t (terminals c + nonterminals c) → Rowed c s z₀ n₀ t₀ at z t n
-  stopped : Crowd c s z₀ n₀ t₀ at z t → Rowed c s z₀ n₀ t₀ at z t 257
+-- how a row ends: with the number of states now; None where more than 256 are needed
+pub data Rowed (c s z₀ : List ℕ) (n₀ : ℕ) (t₀ : List ℕ) (at : ℕ) (z t : List ℕ) : Option ℕ → Type 0 where
+  whole : (n : ℕ) → Row c s z₀ n₀ t₀ at z n t (terminals c + nonterminals c) → Rowed c s z₀ n₀ t₀ at z t (Some n)
+  stopped : Crowd c s z₀ n₀ t₀ at z t → Rowed c s z₀ n₀ t₀ at z t None
 
 -- there are n states, and the transitions of those below q stand in t; the areas were z₀ and t₀
 pub record Table (c z₀ t₀ z : List ℕ) (n : ℕ) (t : List ℕ) (q : ℕ) : Type 0 where
@@ -70,13 +70,13 @@ pub record Table (c z₀ t₀ z : List ℕ) (n : ℕ) (t : List ℕ) (q : ℕ) :
   pub long : length t ≡ length t₀
   pub wide : length z ≡ length z₀
 
--- how the states end: n states and all their transitions, or 257 where more than 256 are needed
-pub data Stated (c z₀ t₀ z t : List ℕ) : ℕ → Type 0 where
-  finished : (n : ℕ) → Table c z₀ t₀ z n t n → Stated c z₀ t₀ z t n
-  beyond : (z₁ : List ℕ) (n : ℕ) (t₁ : List ℕ) (q : ℕ) → Table c z₀ t₀ z₁ n t₁ q → q < n → Crowd c (slot z₁ q) z₁ n (set t₁ (row_of c q) 0) (row_of c q) z t → Stated c z₀ t₀ z t 257
+-- how the states end: n states and all their transitions; None where more than 256 are needed
+pub data Stated (c z₀ t₀ z t : List ℕ) : Option ℕ → Type 0 where
+  finished : (n : ℕ) → Table c z₀ t₀ z n t n → Stated c z₀ t₀ z t (Some n)
+  beyond : (z₁ : List ℕ) (n : ℕ) (t₁ : List ℕ) (q : ℕ) → Table c z₀ t₀ z₁ n t₁ q → q < n → Crowd c (slot z₁ q) z₁ n (set t₁ (row_of c q) 0) (row_of c q) z t → Stated c z₀ t₀ z t None
 
 -- what `states` leaves: the states, and every place behind those that it uses as it was
-pub record Built (c t₀ z₀ w₀ t z w : List ℕ) (r : ℕ) : Type 0 where
+pub record Built (c t₀ z₀ w₀ t z w : List ℕ) (r : Option ℕ) : Type 0 where
   pub stated : Stated c z₀ t₀ z t r
   pub table_kept : Kept t₀ table_size t
   pub sets_kept : Kept z₀ slots_end z

@@ -2,7 +2,7 @@
 use mathlib.Core.Path.{◌≡◌, sym, ap, ap₂, ◌∙◌, subst}
 use mathlib.Core.List.{List}
 use mathlib.Core.Bool.{true}
-use mathlib.Core.Logic.{◌⊎◌, inl, inr, ⊎_elim, ◌≢◌}
+use mathlib.Core.Logic.{⊎_elim, ◌≢◌}
 use Prim.Native.Nat.{ℕ, ◌+◌, ◌-◌, ◌≤◌, ◌<◌}
 use native.Mathlib.Omega.{arith}
 use native.Mathlib.Nat.{eq-or-lt_of_le}
@@ -17,7 +17,7 @@ use Rattle.transitions.specs.Next.{Goes, Numbered, moves, transition_count}
 use Rattle.transitions.specs.Occurrences.{symbol_at, occurring_of, Occurrences}
 use Rattle.transitions.specs.Data.{Enters, Data, Built}
 use Rattle.transitions.proofs.WriteLaws.{shortest_same}
-use Rattle.occurrences.specs.Stores.{Cleared}
+use Rattle.occurrences.proofs.StoreLaws.{Cleared}
 use Rattle.transition_lists.specs.Passes.{Listing, Firsts, Passed, Come}
 use Rattle.occurrences.specs.Gathers.{Prepared}
 use Rattle.transition_lists.proofs.PassLaws.{lower}

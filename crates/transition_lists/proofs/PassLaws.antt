@@ -20,7 +20,7 @@ use Rattle.transitions.specs.Places.{transition_limit, leaves_at, nonterminals_a
 use Rattle.transitions.specs.Area.{leaves_of, nonterminal_of, enters_of, first_of, entering_of, precedes}
 use Rattle.areas.specs.Areas.{row_of}
 use Rattle.transitions.specs.Next.{next_of, Numbered, moves, transition_count}
-use Rattle.occurrences.specs.Stores.{Cleared}
+use Rattle.occurrences.proofs.StoreLaws.{Cleared}
 use Rattle.transitions.specs.Writes.{Stored}
 use Rattle.transitions.proofs.WriteLaws.{precedes_same, precedes_none}
 use Rattle.transition_lists.specs.Stores.{Noted, Celled}
@@ -390,8 +390,8 @@ module _ (c : List ℕ) (n : ℕ) (next : ℕ → ℕ → ℕ) (t : 1 ≤ termin
 
 -- ---- the same, by the numbers that the code computes
 
-pub cell_at : (c t : List ℕ) (n q x at s v : ℕ) → q < n → x < terminals c + nonterminals c → at ≡ row_of c q → s ≡ x → v ≡ get_or t (at + s) 0 → v ≡ next_of c t n q x
-cell_at c t n q x at s v hq hx ea es ev = ev ∙ ap₂ (λ (a b : ℕ). get_or t (a + b) 0) ea es ∙ cell_is c t n q x hq hx
+pub cell_at : (c t : List ℕ) (n q x at v : ℕ) → q < n → x < terminals c + nonterminals c → at ≡ row_of c q → v ≡ get_or t (at + x) 0 → v ≡ next_of c t n q x
+cell_at c t n q x at v hq hx ea ev = ev ∙ ap (λ (a : ℕ). get_or t (a + x) 0) ea ∙ cell_is c t n q x hq hx
 
 pub transition_most : (c : List ℕ) (next : ℕ → ℕ → ℕ) (q : ℕ) → nonterminals c ≤ 60 → transition_count c next q ≤ q * 60
 unfolding transition_count
@@ -408,9 +408,6 @@ passed_most c next w q x k f P h hq hx =
 pub come_trans : (c : List ℕ) (next : ℕ → ℕ → ℕ) (w₀ w₁ w₂ : List ℕ) (q x k f : ℕ) → Behind w₀ w₁ → Come c next w₁ w₂ q x k f → Come c next w₀ w₂ q x k f
 come_trans c next w₀ w₁ w₂ q x k f A B = record { passed = B.passed; rest = record { long = B.rest.long ∙ A.long; high = λ i h. B.rest.high i h ∙ A.high i h } }
 
-pub come_here : (c : List ℕ) (next : ℕ → ℕ → ℕ) (w : List ℕ) (q x k f : ℕ) → Passed c next w q x k f → Come c next w w q x k f
-come_here c next w q x k f P = record { passed = P; rest = record { long = refl; high = λ i h. refl } }
-
 -- the first transition of the next state
 pub store_row : (c : List ℕ) (n : ℕ) (next : ℕ → ℕ → ℕ) → Numbered c n next → 1 ≤ terminals c → (w₀ w w' : List ℕ) (q k : ℕ) → q ≤ 256 → Stored w (firsts_at + q) k w' → Come c next w₀ w q 1 k q → Come c next w₀ w' q 1 k (q + 1)
 store_row c n next N t w₀ w w' q k h S C = store_first c n next N w₀ w w' q 1 k q C S (omega arith) (λ few i g. lower c n next t w q k (C.passed.listing few) i g)
@@ -420,17 +417,5 @@ pub store_none : (c : List ℕ) (n : ℕ) (next : ℕ → ℕ → ℕ) → Numbe
 store_none c n next N t w₀ w w' k u h g S C =
     store_first c n next N w₀ w w' n 1 k u C S g (λ few i m. let a = lower c n next t w n k (C.passed.listing few) i m in omega arith)
 
-pub row_width : (c : List ℕ) (m s x : ℕ) → m ≡ terminals c → s ≡ nonterminals c → x < m + s → x < terminals c + nonterminals c
-row_width c m s x em es h = omega arith
-
-pub row_end : (c : List ℕ) (next : ℕ → ℕ → ℕ) (w₀ w : List ℕ) (q x k f m s : ℕ) → m ≡ terminals c → s ≡ nonterminals c → x ≤ m + s → m + s ≤ x → Come c next w₀ w q x k f → Come c next w₀ w q (terminals c + nonterminals c) k f
-row_end c next w₀ w q x k f m s em es h g C = let e : x ≡ terminals c + nonterminals c = omega arith in rw e at C
-
-pub close_end : (c : List ℕ) (next : ℕ → ℕ → ℕ) (w₀ w : List ℕ) (q x k u : ℕ) → u ≤ 257 → 257 ≤ u → Come c next w₀ w q x k u → Come c next w₀ w q x k 257
-close_end c next w₀ w q x k u h g C = let e : u ≡ 257 = omega arith in rw e at C
-
 pub cell_small : (c : List ℕ) (n : ℕ) (next : ℕ → ℕ → ℕ) → Numbered c n next → (q x v : ℕ) → v ≡ next q x → v < 256
 cell_small c n next N q x v e = let a = N.target q x in let b = N.most in omega arith
-
-pub rows_end : (c : List ℕ) (next : ℕ → ℕ → ℕ) (w₀ w : List ℕ) (q n k : ℕ) → q ≤ n → n ≤ q → Come c next w₀ w q 1 k q → Come c next w₀ w n 1 k n
-rows_end c next w₀ w q n k h g C = let e : q ≡ n = omega arith in rw e at C

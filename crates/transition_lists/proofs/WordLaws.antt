@@ -1,9 +1,9 @@
 -- The words of direct reads.
-use mathlib.Core.Path.{◌≡◌, refl, sym, ap, ◌∙◌, subst}
+use mathlib.Core.Path.{◌≡◌, sym, ap, ◌∙◌, subst}
 use mathlib.Core.List.{List}
 use mathlib.Core.Bool.{true}
-use mathlib.Core.Logic.{◌⊎◌, inl, inr, ⊎_elim, ◌≢◌}
-use Prim.Native.Nat.{ℕ, ◌+◌, ◌-◌, ◌^◌, ◌≤◌, ◌<◌}
+use mathlib.Core.Logic.{inl, inr, ⊎_elim, ◌≢◌}
+use Prim.Native.Nat.{ℕ, ◌+◌, ◌^◌, ◌≤◌, ◌<◌}
 use native.Mathlib.Omega.{arith}
 use native.Mathlib.Nat.{eq-or-lt_of_le}
 use lib.ListN.{length, get_or, set, length-set}
@@ -20,9 +20,6 @@ use Rattle.transitions.specs.Data.{Data, Holds, Shifts, Ends, Direct, Begun}
 use Rattle.transition_lists.specs.Words.{Joined, Ending, Marked, Copied}
 
 -- ---- one terminal
-
-pub joined_none : (s x v : ℕ) → v ≡ 0 → Joined s x v s
-joined_none s x v z = record { only = λ m h. inl h; kept = λ m h. h; new = λ n. absurd (n z) }
 
 pub joined_one : (s x v r : ℕ) → v ≢ 0 → r ≡ bit_or s (2 ^ x) → Joined s x v r
 joined_one s x v r n e = record {
@@ -50,8 +47,8 @@ marked_more next q x s v r hx ev H J = record {
       (eq-or-lt_of_le (let a = k.high in let z : m ≤ x = omega arith in z));
 }
 
-pub marked_end : (c : List ℕ) (next : ℕ → ℕ → ℕ) (q x s m : ℕ) → m ≡ terminals c → 1 ≤ terminals c → x ≤ m → m ≤ x → Holds s (Marked next q x) → Holds s (Shifts c next q)
-marked_end c next q x s m em t h g H = record {
+pub marked_end : (c : List ℕ) (next : ℕ → ℕ → ℕ) (q x s : ℕ) → x ≡ terminals c → Holds s (Marked next q x) → Holds s (Shifts c next q)
+marked_end c next q x s e H = record {
   only = λ i o. let k = H.only i o in record { low = k.low; high = let b = k.high in omega arith; some = k.some };
   all = λ i k. H.all i (record { low = k.low; high = let b = k.high in omega arith; some = k.some });
 }
@@ -70,17 +67,8 @@ ending_one c w i E = record {
 -- ---- the words
 
 module _ (c w : List ℕ) (next : ℕ → ℕ → ℕ) (z₀ : List ℕ) where
-  pub copied_start : Copied c w next z₀ z₀ 0 0
-  copied_start = record {
-    direct = λ j h. absurd (let z : ⊥ = omega arith in z);
-    shifts = λ p h. absurd (let z : ⊥ = omega arith in z);
-    long = refl;
-    between = λ j h g. refl;
-    rest = λ j h. refl;
-  }
-
-  pub copied_word : (z : List ℕ) (q s v : ℕ) → s ≡ q → q < 256 → words_size ≤ length z → Holds v (Shifts c next q) → Copied c w next z₀ z q 0 → Copied c w next z₀ (set z (shifts_at + s) v) (q + 1) 0
-  copied_word z q s v es h l H C = rw es (record {
+  pub copied_word : (z : List ℕ) (q v : ℕ) → q < 256 → words_size ≤ length z → Holds v (Shifts c next q) → Copied c w next z₀ z q 0 → Copied c w next z₀ (set z (shifts_at + q) v) (q + 1) 0
+  copied_word z q v h l H C = record {
     direct = λ j g. absurd (let z : ⊥ = omega arith in z);
     shifts = λ p g.
         ⊎_elim
@@ -90,16 +78,13 @@ module _ (c w : List ℕ) (next : ℕ → ℕ → ℕ) (z₀ : List ℕ) where
     long = length-set z (shifts_at + q) v ∙ C.long;
     between = λ j g k. get_or-set_other z (shifts_at + q) j v 0 (λ a. omega arith) ∙ C.between j g k;
     rest = λ j g. get_or-set_other z (shifts_at + q) j v 0 (λ a. omega arith) ∙ C.rest j (omega arith);
-  })
+  }
 
-  pub copied_all : (z : List ℕ) (q n i : ℕ) → q ≤ n → n ≤ q → Copied c w next z₀ z q i → Copied c w next z₀ z n i
-  copied_all z q n i h g C = let e : q ≡ n = omega arith in rw e at C
-
-  pub copied_direct : (z : List ℕ) (n i o j s : ℕ) → o ≡ i → j ≡ enters_of w i → enters_of w i < n → i < transition_limit → words_size ≤ length z → Holds s (Ending c w i) → Copied c w next z₀ z n i
-      → Copied c w next z₀ (set z o (bit_or (get_or z (shifts_at + j) 0) s)) n (i + 1)
-  copied_direct z n i o j s eo ej hn hi l H C =
+  pub copied_direct : (z : List ℕ) (n i j s : ℕ) → j ≡ enters_of w i → enters_of w i < n → i < transition_limit → words_size ≤ length z → Holds s (Ending c w i) → Copied c w next z₀ z n i
+      → Copied c w next z₀ (set z i (bit_or (get_or z (shifts_at + j) 0) s)) n (i + 1)
+  copied_direct z n i j s ej hn hi l H C =
       let v = bit_or (get_or z (shifts_at + j) 0) s in
-      rw eo (record {
+      record {
         direct = λ u g.
             ⊎_elim
             (λ (e : u ≡ i). rw (e, get_or-set_same z i v 0 (let a : i < length z = omega arith in a)) new)
@@ -109,7 +94,7 @@ module _ (c w : List ℕ) (next : ℕ → ℕ → ℕ) (z₀ : List ℕ) where
         long = length-set z i v ∙ C.long;
         between = λ u g k. get_or-set_other z i u v 0 (λ a. omega arith) ∙ C.between u (omega arith) k;
         rest = λ u g. get_or-set_other z i u v 0 (λ a. omega arith) ∙ C.rest u g;
-      })
+      }
     where
       S : Holds (get_or z (shifts_at + j) 0) (Shifts c next (enters_of w i))
       S = rw ej (C.shifts (enters_of w i) hn)
@@ -120,12 +105,12 @@ module _ (c w : List ℕ) (next : ℕ → ℕ → ℕ) (z₀ : List ℕ) where
         all = λ m d. ⊎_elim (λ a. or_has_r (get_or z (shifts_at + j) 0) s m (H.all m a)) (λ a. or_has_l (get_or z (shifts_at + j) 0) s m (S.all m a)) d;
       }
 
-  pub copied_end : (z : List ℕ) (n i k : ℕ) → n ≤ 256 → i ≤ k → k ≤ i → Copied c w next z₀ z n i → Begun c w n k next z₀ z
-  copied_end z n i k hn h g C = record {
-    direct = λ u l. C.direct u (omega arith);
+  pub copied_end : (z : List ℕ) (n k : ℕ) → n ≤ 256 → Copied c w next z₀ z n k → Begun c w n k next z₀ z
+  copied_end z n k hn C = record {
+    direct = C.direct;
     shifts = C.shifts;
     long = C.long;
-    between = λ u a b. C.between u (omega arith) b;
+    between = C.between;
     rest = λ u a. C.rest u (omega arith);
   }
 

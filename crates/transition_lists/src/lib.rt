@@ -16,7 +16,7 @@ fn row_at(c: &[u16], q: u32) -> usize
     requires { (form_fault c.now ≡ 0) × (q < 256) }
     ensures { (result ≡ row_of c.now q) × (result < 65536) }
 {
-    areas::row(c, card::wide32(q))
+    areas::row(c, q as usize)
 }
 
 // Notes at state v a transition by x from state q.
@@ -52,7 +52,6 @@ fn cell(w: &mut [u32], t: u32, k: u32, q: u32, x: u32, v: u32) -> u32
     }
     if k < transitions::LIMIT {
         place(w, k, q, x, v);
-        return k + 1;
     }
     k + 1
 }
@@ -62,21 +61,13 @@ fn row(c: &[u16], t: &[u16], w: &mut [u32], n: u32, q: u32, k: u32) -> u32
     requires { (form_fault c.now ≡ 0) × Numbered c.now n (next_of c.now t.now n) × (q < n) × (halves_size ≤ length w.old) × Passed c.now (next_of c.now t.now n) w.old q 1 k (q + 1) }
     ensures { Come c.now (next_of c.now t.now n) w.old w.new q (terminals c.now + nonterminals c.now) result (q + 1) }
 {
-    let m = card::wider(card::terminals(c));
-    let width = m + card::wider(card::nonterminals(c));
+    let m = u32::from(card::terminals(c));
+    let width = m + u32::from(card::nonterminals(c));
     let at = row_at(c, q);
     let mut r = k;
-    let mut x: u32 = 1;
-    while x < width {
-        r = cell(
-            w,
-            m,
-            r,
-            q,
-            x,
-            card::wider(card::at(t, at + card::wide32(x))),
-        );
-        x += 1;
+    for x in 1..width {
+        let v = u32::from(card::at(t, at + x as usize));
+        r = cell(w, m, r, q, x, v);
     }
     r
 }
@@ -87,11 +78,9 @@ fn rows(c: &[u16], t: &[u16], w: &mut [u32], n: u32) -> u32
     ensures { Come c.now (next_of c.now t.now n) w.old w.new n 1 result n }
 {
     let mut k: u32 = 0;
-    let mut q: u32 = 0;
-    while q < n {
+    for q in 0..n {
         transitions::put(w, transitions::FIRSTS_AT, q, k);
         k = row(c, t, w, n, q, k);
-        q += 1;
     }
     k
 }
@@ -101,10 +90,8 @@ fn close(w: &mut [u32], n: u32, k: u32)
     requires { (n ≤ 256) × (halves_size ≤ length w.old) }
     ensures { (c : List ℕ) (next : ℕ → ℕ → ℕ) → Numbered c n next → 1 ≤ terminals c → Passed c next w.old n 1 k n → Come c next w.old w.new n 1 k 257 }
 {
-    let mut u: u32 = n;
-    while u < 257 {
+    for u in n..257 {
         transitions::put(w, transitions::FIRSTS_AT, u, k);
-        u += 1;
     }
 }
 
@@ -114,7 +101,7 @@ pub fn build(c: &[u16], t: &[u16], w: &mut [u32], n: u32, e: &[u16; 60]) -> u32
     ensures { Built c.now w.old w.new n result e.now (next_of c.now t.now n) }
 {
     occurrences::prepare(c, w, e);
-    occurrences::clear(w, transitions::ENTERING_AT, transitions::STARTS_AT);
+    w[transitions::ENTERING_AT..transitions::STARTS_AT].fill(0);
     let k = rows(c, t, w, n);
     close(w, n, k);
     k
@@ -138,13 +125,10 @@ fn shifts(c: &[u16], t: &[u16], n: u32, q: u32) -> u64
     requires { (form_fault c.now ≡ 0) × (q < n) × (n ≤ 256) }
     ensures { Holds result (Shifts c.now (next_of c.now t.now n) q) }
 {
-    let m = card::wider(card::terminals(c));
     let at = row_at(c, q);
     let mut s: u64 = 0;
-    let mut x: u32 = 1;
-    while x < m {
-        s = mark(s, x, card::at(t, at + card::wide32(x)));
-        x += 1;
+    for x in 1..u32::from(card::terminals(c)) {
+        s = mark(s, x, card::at(t, at + x as usize));
     }
     s
 }
@@ -154,11 +138,8 @@ fn words(c: &[u16], t: &[u16], z: &mut [u64], n: u32)
     requires { (form_fault c.now ≡ 0) × (n ≤ 256) × (words_size ≤ length z.old) }
     ensures { (w : List ℕ) → Copied c.now w (next_of c.now t.now n) z.old z.new n 0 }
 {
-    let mut q: u32 = 0;
-    while q < n {
-        let i = transitions::SHIFTS_AT + card::wide32(q);
-        z[i] = shifts(c, t, n, q);
-        q += 1;
+    for q in 0..n {
+        z[transitions::SHIFTS_AT + q as usize] = shifts(c, t, n, q);
     }
 }
 
@@ -169,7 +150,7 @@ fn ending(c: &[u16], w: &[u32], i: u32) -> u64
     if transitions::leaves(w, i) != 0 {
         return 0;
     }
-    if transitions::nonterminal(w, i) != card::wider(card::terminals(c)) {
+    if transitions::nonterminal(w, i) != u32::from(card::terminals(c)) {
         return 0;
     }
     1
@@ -181,11 +162,8 @@ pub fn direct(c: &[u16], t: &[u16], w: &[u32], z: &mut [u64], n: u32, k: u32)
     ensures { Begun c.now w.now n k (next_of c.now t.now n) z.old z.new }
 {
     words(c, t, z, n);
-    let mut i: u32 = 0;
-    while i < k {
-        let j = transitions::SHIFTS_AT + card::wide32(transitions::enters(w, i));
-        let o = card::wide32(i);
-        z[o] = z[j] | ending(c, w, i);
-        i += 1;
+    for i in 0..k {
+        let j = transitions::SHIFTS_AT + transitions::enters(w, i) as usize;
+        z[i as usize] = z[j] | ending(c, w, i);
     }
 }

@@ -15,10 +15,10 @@ use Rattle.sets.proofs.BitLaws.{bit_zero, bit_of_or, bit_pow}
 use Rattle.sets.proofs.HasLaws.{eq_or, or_false}
 use Rattle.transitions.specs.Places.{predecessors_at, starts_at, lengths_at}
 use Rattle.transitions.specs.Area.{precedes, Paired, shortest_of}
-use Rattle.transitions.specs.Writes.{Stored, Preceded, Measured}
+use Rattle.transitions.specs.Writes.{Stored, Preceded}
 
-pub stored : (w : List ℕ) (i j v : ℕ) → j ≡ i → i < length w → Stored w i v (set w j v)
-stored w i j v e h = rw e (record { long = length-set w i v; here = get_or-set_same w i v 0 h; other = λ u n. get_or-set_other w i u v 0 n })
+stored : (w : List ℕ) (i v : ℕ) → i < length w → Stored w i v (set w i v)
+stored w i v h = record { long = length-set w i v; here = get_or-set_same w i v 0 h; other = λ u n. get_or-set_other w i u v 0 n }
 
 -- ---- the states before a state
 
@@ -64,10 +64,10 @@ module _ (w : List ℕ) (q p : ℕ) (hq : q < 256) (hp : p < 256) (w' : List ℕ
     high = λ i h. S.other i (λ z. omega arith);
   }
 
--- by the numbers that the code computes
-pub preceded_of : (w : List ℕ) (q p a b g : ℕ) → q < 256 → p < 256 → starts_at ≤ length w → a ≡ q → b ≡ p / 32 → g ≡ 2 ^ (p % 32)
-    → Preceded w q p (set w (predecessors_at + 8 * a + b) (bit_or (get_or w (predecessors_at + 8 * a + b) 0) g))
-preceded_of w q p a b g hq hp l ea eb eg = rw (ea, eb, eg) (preceded w q p hq hp _ (stored w (place q p) (place q p) _ refl (omega arith)))
+-- by the shift that the code computes
+pub preceded_of : (w : List ℕ) (q p g : ℕ) → q < 256 → p < 256 → starts_at ≤ length w → g ≡ 2 ^ (p % 32)
+    → Preceded w q p (set w (predecessors_at + 8 * q + p / 32) (bit_or (get_or w (predecessors_at + 8 * q + p / 32) 0) g))
+preceded_of w q p g hq hp l eg = rw eg (preceded w q p hq hp _ (stored w (place q p) _ (omega arith)))
 
 -- where the places of the states before states are the same, or 0
 module _ (w' : List ℕ) (q p : ℕ) (hq : q < 256) (hp : p < 256) where
@@ -80,10 +80,10 @@ module _ (w' : List ℕ) (q p : ℕ) (hq : q < 256) (hp : p < 256) where
   precedes_none zero = ap (λ (z : ℕ). bit z (p % 32)) (zero (place q p) (omega arith) (omega arith)) ∙ bit_zero (p % 32)
 
 -- the bits of a word of them
-pub word_of : (w : List ℕ) (q j a r : ℕ) → a ≡ q → Paired w (predecessors_at + 8 * a + 2 * j) r → (m : ℕ) → m < 64 → bit r m ≡ precedes w q (64 * j + m)
+pub word_of : (w : List ℕ) (q j r : ℕ) → Paired w (predecessors_at + 8 * q + 2 * j) r → (m : ℕ) → m < 64 → bit r m ≡ precedes w q (64 * j + m)
 unfolding precedes
-word_of w q j a r ea P m h =
-    let e : predecessors_at + 8 * a + 2 * j + m / 32 ≡ place q (64 * j + m) = omega arith in
+word_of w q j r P m h =
+    let e : predecessors_at + 8 * q + 2 * j + m / 32 ≡ place q (64 * j + m) = omega arith in
     let d : m % 32 ≡ (64 * j + m) % 32 = omega arith in
     P.bits m h ∙ ap₂ (λ (x y : ℕ). bit (get_or w x 0) y) e d
 
@@ -91,21 +91,3 @@ word_of w q j a r ea P m h =
 
 pub shortest_same : (w w' : List ℕ) → ((i : ℕ) → lengths_at ≤ i → get_or w' i 0 ≡ get_or w i 0) → shortest_of w' ≡ shortest_of w
 shortest_same w w' same = λ i j. same (lengths_at + j) (omega arith) i
-
-pub measured_none : (w e : List ℕ) → Measured w e 0 w
-measured_none w e = record { long = refl; lengths = λ j h. absurd (let z : ⊥ = omega arith in z); low = λ i h. refl; high = λ i h. refl }
-
-pub measured_more : (w e w' : List ℕ) (n v : ℕ) → Measured w e n w' → lengths_at + n < length w → v ≡ get_or e n 0 → Measured w e (n + 1) (set w' (lengths_at + n) v)
-measured_more w e w' n v m h ev = record {
-  long = S.long ∙ m.long;
-  lengths = λ j l.
-      ⊎_elim (λ (z : j ≡ n). rw z (S.here ∙ ev)) (λ (z : j ≡ n → ⊥). S.other (lengths_at + j) (λ y. z (omega arith)) ∙ m.lengths j (omega arith)) (eq_or j n);
-  low = λ i l. S.other i (λ z. omega arith) ∙ m.low i l;
-  high = λ i l. S.other i (λ z. omega arith) ∙ m.high i (omega arith);
-}
-  where
-    S : Stored w' (lengths_at + n) v (set w' (lengths_at + n) v)
-    S = stored w' (lengths_at + n) (lengths_at + n) v refl (omega (arith, m.long))
-
-pub measured_end : (w e w' : List ℕ) (n : ℕ) → n ≤ 60 → 60 ≤ n → Measured w e n w' → Measured w e 60 w'
-measured_end w e w' n h g m = let z : n ≡ 60 = omega arith in rw z at m

@@ -52,7 +52,7 @@ pub const SHIFTS_AT: usize = STACK_AT + LIMIT as usize;
 fn at(w: &[u32], i: usize) -> u32
     ensures { result ≡ get_or w.now i 0 }
 {
-    if i < w.len() { w[i] } else { 0 }
+    w.get(i).copied().unwrap_or(0)
 }
 
 // The number i places behind place b, and 0 past the end.
@@ -60,7 +60,7 @@ fn after(w: &[u32], b: usize, i: u32) -> u32
     requires { b < 65536 }
     ensures { result ≡ get_or w.now (b + i) 0 }
 {
-    at(w, b + card::wide32(i))
+    at(w, b + i as usize)
 }
 
 // The state that transition i leaves, its nonterminal, and the state that it enters.
@@ -136,18 +136,12 @@ pub fn shortest_length(w: &[u32], j: u32) -> u32
     after(w, LENGTHS_AT, j)
 }
 
-fn wide64(x: u32) -> u64
-    ensures { result ≡ x }
-{
-    x as u64
-}
-
 // The two numbers from place i on as one of 64 bits.
 fn pair(w: &[u32], i: usize) -> u64
     requires { i < 65536 }
     ensures { Paired w.now i result }
 {
-    wide64(at(w, i)) + wide64(at(w, i + 1)) * 4294967296
+    u64::from(at(w, i)) + u64::from(at(w, i + 1)) * 4294967296
 }
 
 // Word j of the states that have a transition to state q, 64 states to a word.
@@ -155,7 +149,7 @@ pub fn predecessors(w: &[u32], q: u32, j: usize) -> u64
     requires { (q < 256) × (j < 4) }
     ensures { (m : ℕ) → m < 64 → bit result m ≡ precedes w.now q (64 * j + m) }
 {
-    pair(w, PREDECESSORS_AT + 8 * card::wide32(q) + 2 * j)
+    pair(w, PREDECESSORS_AT + 8 * q as usize + 2 * j)
 }
 
 // ---- the writers
@@ -165,8 +159,7 @@ pub fn put(w: &mut [u32], b: usize, i: u32, v: u32)
     requires { b + i < length w.old }
     ensures { Stored w.old (b + i) v w.new }
 {
-    let j = b + card::wide32(i);
-    w[j] = v;
+    w[b + i as usize] = v;
 }
 
 // Puts down that state p has a transition to state q.
@@ -174,8 +167,8 @@ pub fn precede(w: &mut [u32], q: u32, p: u32)
     requires { (q < 256) × (p < 256) × (starts_at ≤ length w.old) }
     ensures { Preceded w.old q p w.new }
 {
-    let i = PREDECESSORS_AT + 8 * card::wide32(q) + card::wide32(p / 32);
-    w[i] = w[i] | (1 << (p % 32));
+    let i = PREDECESSORS_AT + 8 * q as usize + (p / 32) as usize;
+    w[i] |= 1 << (p % 32);
 }
 
 // Puts down the shortest lengths e of 60 nonterminals.
@@ -183,9 +176,7 @@ pub fn put_lengths(w: &mut [u32], e: &[u16; 60])
     requires { halves_end ≤ length w.old }
     ensures { Measured w.old e.now 60 w.new }
 {
-    let mut j: usize = 0;
-    while j < 60 {
-        w[LENGTHS_AT + j] = card::wider(e[j]);
-        j += 1;
+    for (j, x) in e.iter().enumerate() {
+        w[LENGTHS_AT + j] = u32::from(*x);
     }
 }

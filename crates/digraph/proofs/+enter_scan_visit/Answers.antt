@@ -1,6 +1,4 @@
 -- Entering a node, scanning its edges and visiting their nodes.
-use Rattle.std.proofs.Common.{ℕ, ◌∙◌}
-use mathlib.Core.Path.{refl}
 use native.Mathlib.Omega.{arith}
 use Rattle.relations.specs.Edge.{Edge}
 use Rattle.relations.specs.Walk.{Left}
@@ -27,51 +25,38 @@ enter-returns t c =
     steps.entered a.k a.z.now a.depth a.x p.0 p.2 p.3 c.push.new.z c.push.ensures
     (Edge a.relation a.c.now a.w.now a.k) c.scan-d.new.z c.scan-d.result c.scan-d.ensures c.finish.new.z c.finish.result c.finish.auto.z c.finish.ensures
 
-pub scan-loop-y-init : goal.scan-loop-y-init
-scan-loop-y-init t c =
+pub scan-loop-node-init : goal.scan-loop-node-init
+scan-loop-node-init t c =
     let a = c.args in
     let p = c.requires in
     let f = c.first_edge-cursor.ensures a.k p.1 in
-    (refl, f.sound, steps.scan_first (Edge a.relation a.c.now a.w.now a.k) a.k a.z.now a.depth a.x (Left a.relation a.c.now a.w.now a.k a.x c.first_edge-cursor.result) p.0 f.all)
+    (f.sound, steps.scan_first (Edge a.relation a.c.now a.w.now a.k) a.k a.z.now a.depth a.x (Left a.relation a.c.now a.w.now a.k a.x c.first_edge-cursor.result) p.0 f.all)
 
 pub scan-visit-d-requires : goal.scan-visit-d-requires
 scan-visit-d-requires t c =
     let a = c.args in
     let p = c.requires in
-    let l = c.loop-y in
-    let h = (c.next_edge-found.ensures a.k p.1).here c.if-found.true in
-    let fewer = steps.scan_fewer (Edge a.relation a.c.now a.w.now a.k) a.k a.z.now a.depth a.x (Left a.relation a.c.now a.w.now a.k a.x l.cursor) l.z l.d l.invariant.2 in
-    (omega (arith, c.decreases, fewer), (l.invariant.2.kept.room, p.1, h.inside))
+    let l = c.loop-node in
+    let h = (c.in-Some.ensures a.k p.1).here in
+    let fewer = steps.scan_fewer (Edge a.relation a.c.now a.w.now a.k) a.k a.z.now a.depth a.x (Left a.relation a.c.now a.w.now a.k a.x l.cursor) l.z l.d l.invariant.1 in
+    (omega (arith, c.decreases, fewer), (l.invariant.1.kept.room, p.1, h.inside))
 
-pub scan-join-requires : goal.scan-join-requires
-scan-join-requires t c =
-    let p = c.requires in
-    let h = (c.next_edge-found.ensures c.args.k p.1).here c.if-found.true in
-    (c.visit-d.ensures.kept.room.long, omega (arith, p.0.small, p.2), omega (arith, p.0.small, h.inside))
-
-pub scan-loop-y-smaller : goal.scan-loop-y-smaller
-scan-loop-y-smaller t c = (c.next_edge-found.ensures c.args.k c.requires.1).less c.if-found.true
-
-pub scan-loop-y-preserved : goal.scan-loop-y-preserved
-scan-loop-y-preserved t c =
+pub scan-loop-node-preserved : goal.scan-loop-node-preserved
+scan-loop-node-preserved t c =
     let a = c.args in
     let p = c.requires in
-    let l = c.loop-y in
-    let f = c.next_edge-found.ensures a.k p.1 in
-    let found = c.next_edge-found.result in
-    let more = c.if-found.true in
-    let h = f.here more in
+    let l = c.loop-node in
+    let f = c.in-Some.ensures a.k p.1 in
+    let found = c.in-Some.field-0 in
     let v = c.visit-d in
     let j = c.join in
     let scanned =
-    steps.scan_more (Edge a.relation a.c.now a.w.now a.k) a.k a.z.now a.depth a.x (Left a.relation a.c.now a.w.now a.k a.x l.cursor) l.z l.d l.invariant.2
-    found.node p.2 h.inside h (Left a.relation a.c.now a.w.now a.k a.x found.cursor) (f.after more) v.new.z v.result v.ensures j.new.z j.ensures in
-    (j.auto.z ∙ v.auto.z ∙ l.invariant.0, f.sound more, scanned)
+    steps.scan_more (Edge a.relation a.c.now a.w.now a.k) a.k a.z.now a.depth a.x (Left a.relation a.c.now a.w.now a.k a.x l.cursor) l.z l.d l.invariant.1
+    found.node p.2 f.here.inside f.here (Left a.relation a.c.now a.w.now a.k a.x found.cursor) f.after v.new.z v.result v.ensures j.new.z j.ensures in
+    (f.sound, scanned)
 
-pub scan-returns-else-found : goal.scan-returns-else-found
-scan-returns-else-found t c =
+pub scan-returns : goal.scan-returns
+scan-returns t c =
     let a = c.args in
-    let p = c.requires in
-    let l = c.loop-y in
-    let f = c.next_edge-found.ensures a.k p.1 in
-    steps.scan_last (Edge a.relation a.c.now a.w.now a.k) a.k a.z.now a.depth a.x (Left a.relation a.c.now a.w.now a.k a.x l.cursor) l.z l.d l.invariant.2 (f.none c.if-found.false)
+    let l = c.loop-node in
+    steps.scan_last (Edge a.relation a.c.now a.w.now a.k) a.k a.z.now a.depth a.x (Left a.relation a.c.now a.w.now a.k a.x l.cursor) l.z l.d l.invariant.1 (c.in_default.ensures a.k c.requires.1)
