@@ -25,7 +25,7 @@ use Rattle.merged_card.specs.Merged.{moved, merged_card}
 use Rattle.merged_card.specs.Joined.{FromFirst, FromSecond, Joins}
 use Rattle.merged_card.proofs.Embedding.{sentence_rightmost}
 use Rattle.merge.specs.Answer.{Merges}
-use Rattle.merge.specs.declared.Answer.TheVariants.{Merged}
+use Rattle.std.specs.Prelude.{Ok}
 use Rattle.merge.proofs.Example.{card_b}
 use Rattle.merge.proofs.OneMerge.{area_joins}
 use Rattle.certificate.specs.PastTen.{PastTen, table, states, transitions, two_actions}
@@ -34,7 +34,7 @@ use Rattle.certificate.proofs.Demands.{demand_3}
 use Rattle.certificate.proofs.Examples.{settled}
 
 -- a and b were merged into an area: its first n numbers are the merged card. The maker is handed these, with its areas t, z and w
-module _ (a b old : List ℕ) {n : ℕ} {new : List ℕ} (merge : Merges a b old (Merged n) new) (t z w : List ℕ) where
+module _ (a b old : List ℕ) {n : ℕ} {new : List ℕ} (merge : Merges a b old (Ok n) new) (t z w : List ℕ) where
   joins : Joins a b (take n new)
   joins = area_joins a b old merge
 

@@ -12,7 +12,7 @@ use Rattle.card_checks.specs.Checked.{passed}
 use Rattle.merged_card.specs.Merged.{moved, merged_card}
 use Rattle.merged_card.specs.Joined.{Joins}
 use Rattle.merge.specs.Answer.{Passes, Joinable, merged, Merges}
-use Rattle.merge.specs.declared.Answer.TheVariants.{Merged}
+use Rattle.std.proofs.Common.{Ok}
 use Rattle.merge.proofs.OneMerge.{area_joins}
 
 -- card A of document 01: 3 → 3 1, 3 → 2; and a card whose one sentence is 1 2
@@ -57,7 +57,7 @@ example_joinable = record { first = a_passes; second = b_passes; terminals_same 
 abbrev area : List ℕ
 area = 9 ∷ 9 ∷ 9 ∷ 9 ∷ 9 ∷ 9 ∷ 9 ∷ 9 ∷ 9 ∷ 9 ∷ 9 ∷ 9 ∷ 9 ∷ 9 ∷ 9 ∷ 9 ∷ 9 ∷ 9 ∷ 9 ∷ 9 ∷ 9 ∷ 8 ∷ 7 ∷ []
 
-pub example : Merges card_a card_b area (Merged 21) (both ++ 8 ∷ 7 ∷ [])
+pub example : Merges card_a card_b area (Ok 21) (both ++ 8 ∷ 7 ∷ [])
 unfolding merged_card moved terminals nonterminals productions symbols left_of length_of symbol_of sizes_ok between
 example = record { answer = merged example_joinable refl (omega arith); area = refl }
 

@@ -6,13 +6,12 @@ ghost use Rattle.sets.specs.Lists.{covered};
 ghost use Rattle.merge.specs.Answer.{answer_numbers};
 ghost use Rattle.merge_c.specs.Out.{WritesOut};
 
-use merge::Answer;
+use merge::Refusal;
 
-fn three(a: Answer) -> [u64; 3]
-    ensures { result ≡ covered 3 (answer_numbers a) [] }
+fn three(answer: Result<u16, Refusal>) -> [u64; 3]
+    ensures { result ≡ covered 3 (answer_numbers answer) [] }
 {
-    let n = merge::numbers(a);
-    [n[0] as u64, n[1] as u64, n[2] as u64]
+    merge::numbers(answer).map(u64::from)
 }
 
 #[unsafe(no_mangle)]
@@ -24,6 +23,5 @@ pub extern "C" fn sidumza_merge(
 )
     ensures { WritesOut first.now second.now merged.old out.new merged.new }
 {
-    let a = merge::merge(first, second, merged);
-    *out = three(a);
+    *out = three(merge::merge(first, second, merged));
 }

@@ -5,17 +5,13 @@ use Prim.Native.Nat.{ℕ, ◌+◌, ◌<◌, ◌≤◌}
 use native.Mathlib.Omega.{arith}
 use lib.ListN.{get_or}
 use Rattle.merged_card.proofs.ArrayLaws.{same_ones}
-use Rattle.grammar.specs.Card.{terminals, nonterminals, productions, left_of, length_of, symbol_of}
+use Rattle.grammar.specs.Card.{terminals, nonterminals, productions, left_of, length_of, symbol_of, form_fault}
 use Rattle.grammar.proofs.CardLaws.{Limits, WellFormed, well_formed, start_mono}
 use Rattle.merged_card.specs.Merged.{moved, merged_lefts, merged_lengths, merged_symbols}
 use Rattle.merged_card.proofs.FormLaws.{moved_nonterminal, moved_bounds}
 use Rattle.merged_card.specs.Writing.{left_part, length_part, symbol_part, Narrow, Gives, Alike}
 use Rattle.merged_card.specs.declared.Part.{Part}
 use Rattle.merged_card.specs.declared.Pieces.{Pieces}
-
--- parts with the same values are the same
-pub part_same : {f f' n n' k : ℕ} → f ≡ f' → n ≡ n' → ◌≡◌ {A = Part} (record { from = f; count = n; by = k }) (record { from = f'; count = n'; by = k })
-part_same d e = rw (d, e) refl
 
 -- by 0 nothing moves
 unmoved : (t x : ℕ) → moved t 0 x ≡ x
@@ -37,6 +33,10 @@ module _ (c : List ℕ) (w : WellFormed c) where
 -- the pieces of an array by their values
 abbrev pieces_of : ℕ → ℕ → Part → Part → Pieces
 pieces_of x y p q = record { x = x; y = y; first = p; second = q }
+
+-- a card past 4 to 9 has 60 nonterminals at most
+pub nonterminals_to_60 : (c : List ℕ) → form_fault c ≡ 0 → nonterminals c ≤ 60
+nonterminals_to_60 c e = (well_formed c e).limits.nonterminals_to
 
 module _ (a b : List ℕ) (j : Alike a b) where
   v : WellFormed a

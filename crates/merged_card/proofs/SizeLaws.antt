@@ -2,11 +2,11 @@
 use mathlib.Core.Path.{◌≡◌, refl, ◌∙◌}
 use mathlib.Core.Bool.{◌&&◌}
 use mathlib.Core.List.{List, [], ◌∷◌}
-use Prim.Native.Nat.{ℕ, ◌+◌, ◌<◌, ◌≤◌}
+use Prim.Native.Nat.{ℕ, ◌+◌, ◌≤◌}
 use native.Mathlib.Omega.{arith}
 use lib.ListN.{length, set}
 use lib.Dec.{leb}
-use lib.Seq.{sets-eq, lt-length-sets}
+use lib.Seq.{sets-eq}
 use borrow.Author.Tests.{le-leb}
 use Rattle.sets.specs.Tests.{between}
 use Rattle.sets.proofs.TestLaws.{between_true}
@@ -21,6 +21,10 @@ use Rattle.merged_card.proofs.PartLaws.{first_limits}
 from_one : (h x : ℕ) → 1 ≤ x → between 1 h x ≡ leb x h
 unfolding between
 from_one h x l = rw (le-leb 1 x l)
+
+-- an area for the merged card has room for its sizes
+pub sizes_room : (a b : List ℕ) (n : ℕ) → Merging a b n → 4 ≤ n
+sizes_room a b n g = omega (arith, g.fits, merged_length a b)
 
 module _ (a b : List ℕ) {s : Sizes} (z : SizesOf a b s) where
   -- "Sizes over the limits are 5.": T is within them, and none of the others is 0
@@ -42,21 +46,6 @@ module _ (a b : List ℕ) {s : Sizes} (z : SizesOf a b s) where
       ) refl
 
   module _ {t : ℕ} (e : t ≡ terminals a) (old : List ℕ) (g : Merging a b (length old)) where
-    four : 4 ≤ length old
-    four = omega (arith, g.fits, merged_length a b)
-
-    pub room_one : 0 < length old
-    room_one = omega (arith, four)
-
-    pub room_two : 1 < length (set old 0 t)
-    room_two = lt-length-sets old 0 (t ∷ []) (omega (arith, four))
-
-    pub room_three : 2 < length (set (set old 0 t) 1 s.n)
-    room_three = lt-length-sets old 0 (t ∷ s.n ∷ []) (omega (arith, four))
-
-    pub room_four : 3 < length (set (set (set old 0 t) 1 s.n) 2 s.p)
-    room_four = lt-length-sets old 0 (t ∷ s.n ∷ s.p ∷ []) (omega (arith, four))
-
     pub sizes_written : set (set (set (set old 0 t) 1 s.n) 2 s.p) 3 s.l ≡ written 0 (merged_sizes a b) old
     unfolding written
-    sizes_written = sets-eq (t ∷ s.n ∷ s.p ∷ s.l ∷ []) old 0 four ∙ rw (e, z.n, z.p, z.l) refl
+    sizes_written = sets-eq (t ∷ s.n ∷ s.p ∷ s.l ∷ []) old 0 (sizes_room a b (length old) g) ∙ rw (e, z.n, z.p, z.l) refl

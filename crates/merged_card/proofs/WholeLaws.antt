@@ -82,8 +82,5 @@ module _ (a b : List ℕ) {t : ℕ} (et : t ≡ terminals a) where
                 whole_front : Front old (merged_sizes a b ++ merged_lefts a b ++ merged_lengths a b ++ merged_symbols a b) last
                 whole_front = front_more (merged_symbols a b) lengths_front lengths_end (omega (arith, symbols_asked.1, ap length (as_given gr))) (rw (as_given gr) at f)
 
-                pub whole_length : length last ≡ length old
-                whole_length = front_length whole_front
-
                 pub whole_written : last ≡ merged_card a b ++ drop (length (merged_card a b)) old
                 whole_written = whole_front.is ∙ ap (λ (l : List ℕ). written 0 l old) (whole_card a b) ∙ at_front (merged_card a b) old

@@ -46,11 +46,8 @@ module _ (i : ℕ) (area : List ℕ) where
 
 -- an area into which the first j of n numbers are written, all of which have room in it
 module _ (i j n : ℕ) (f : ℕ → ℕ) (old : List ℕ) {new : List ℕ} where
-  pub part_length : j ≤ n → i + n ≤ length old → new ≡ written i (each j (λ k. f k ∷ [])) old → length new ≡ length old
+  part_length : j ≤ n → i + n ≤ length old → new ≡ written i (each j (λ k. f k ∷ [])) old → length new ≡ length old
   part_length h k e = rw e (written_length i old (each j (λ k. f k ∷ [])) (omega (arith, ones_length j f)))
-
-  pub part_inside : j < n → i + n ≤ length old → new ≡ written i (each j (λ k. f k ∷ [])) old → i + j < length new
-  part_inside h k e = omega (arith, part_length (omega arith) k e)
 
   -- one number more
   pub part_next : {x : ℕ} → j < n → i + n ≤ length old → new ≡ written i (each j (λ k. f k ∷ [])) old → x ≡ f j → set new (i + j) x ≡ written i (each (j + 1) (λ k. f k ∷ [])) old
@@ -61,9 +58,6 @@ module _ (i j n : ℕ) (f : ℕ → ℕ) (old : List ℕ) {new : List ℕ} where
       let s : j + 1 ≡ suc j = omega arith in
       let at : set (written i l old) (i + length l) x ≡ written (i + length l) (x ∷ []) (written i l old) = written_one (i + length l) (written i l old) x (omega (arith, written_length i old l b)) in
       rw (s, e, sym g) (rw m at (at ∙ written_behind i old l b (x ∷ [])))
-
-  pub part_whole : j ≤ n → n ≤ j → new ≡ written i (each j (λ k. f k ∷ [])) old → new ≡ written i (each n (λ k. f k ∷ [])) old
-  part_whole h k e = let z : j ≡ n = omega arith in rw z at e
 
 -- an array of the merged card is written: first its two heads, then the numbers of the first card, then those of the second
 module _ (a b : List ℕ) (p : Pieces) (t i : ℕ) (old : List ℕ) (room : i + length (array_numbers a b t p) ≤ length old) where
@@ -82,7 +76,7 @@ module _ (a b : List ℕ) (p : Pieces) (t i : ℕ) (old : List ℕ) (room : i + 
   size : length (array_numbers a b t p) ≡ 2 + (p.first.count + p.second.count)
   size = array_length p.x p.y p.first.count (number_of a t p.first) p.second.count (number_of b t p.second)
 
-  pub second_head : i + 1 < length (set old i p.x)
+  second_head : i + 1 < length (set old i p.x)
   second_head = omega (arith, room, size, length-set old i p.x)
 
   begun_length : length begun ≡ length old
@@ -110,9 +104,6 @@ module _ (a b : List ℕ) (p : Pieces) (t i : ℕ) (old : List ℕ) (room : i + 
     room_second = omega (arith, room, size, new_length)
 
     module _ {last : List ℕ} (d : last ≡ written (i + 2 + p.first.count) of_b new) where
-      pub last_length : length last ≡ length old
-      last_length = part_length (i + 2 + p.first.count) p.second.count p.second.count (number_of b t p.second) new (omega arith) room_second d ∙ new_length
-
       pub array_end : i + 2 + p.first.count + p.second.count ≡ i + length (array_numbers a b t p)
       array_end = omega (arith, size)
 

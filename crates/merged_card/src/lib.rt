@@ -9,6 +9,7 @@ ghost use Rattle.merged_card.specs.Merged.{moved as moved_by, merged_card, merge
 ghost use Rattle.merged_card.specs.Writing.{written, number_of, array_numbers, left_part, length_part, symbol_part, Narrow, Inside, Gives, SizesOf, Alike, Merging};
 
 // The symbol x of a card with t terminals: a nonterminal moves up by k.
+#[tactic(auto, unfolding(crate::specs::Merged::moved))]
 fn moved(t: u16, k: u16, x: u16) -> u16
     requires { x + k < 65536 }
     ensures { result ≡ moved_by t k x }
@@ -25,16 +26,13 @@ struct Part {
 }
 
 // Writes a part of the card c from place i on.
+#[tactic(auto, using(crate::proofs::WritingLaws::written_none))]
 fn transfer(c: &[u16], p: Part, t: u16, out: &mut [u16], i: usize)
     requires { (p.from + p.count ≤ length c.now) × (i + p.count ≤ length out.old) × Narrow c.now p }
     ensures { out.new ≡ written i (each p.count (λ j. number_of c.now t p j ∷ [])) out.old }
 {
-    let from = p.from;
-    let count = p.count;
-    let mut j: usize = 0;
-    while j < count {
-        out[i + j] = moved(t, p.by, c[from + j]);
-        j += 1;
+    for j in 0..p.count {
+        out[i + j] = moved(t, p.by, c[p.from + j]);
     }
 }
 
@@ -64,6 +62,7 @@ fn array(a: &[u16], b: &[u16], s: Pieces, t: u16, out: &mut [u16], i: usize) -> 
 }
 
 // By how much the second card's nonterminals move up: behind the new start and the first card's.
+#[tactic(auto, using(crate::proofs::PartLaws::nonterminals_to_60))]
 fn behind(a: &[u16]) -> u16
     requires { form_fault a.now ≡ 0 }
     ensures { result ≡ 1 + nonterminals_of a.now }
@@ -77,7 +76,7 @@ fn left_part(c: &[u16], k: u16) -> Part
 {
     Part {
         from: 4,
-        count: card::wide(card::productions(c)),
+        count: usize::from(card::productions(c)),
         by: k,
     }
 }
@@ -86,10 +85,10 @@ fn left_part(c: &[u16], k: u16) -> Part
 fn length_part(c: &[u16]) -> Part
     ensures { result ≡ length_part c.now }
 {
-    let n = card::wide(card::productions(c));
+    let count = usize::from(card::productions(c));
     Part {
-        from: 4 + n,
-        count: n,
+        from: 4 + count,
+        count,
         by: 0,
     }
 }
@@ -100,7 +99,7 @@ fn symbol_part(c: &[u16], k: u16) -> Part
 {
     Part {
         from: card::symbols_at(c),
-        count: card::wide(card::symbols(c)),
+        count: usize::from(card::symbols(c)),
         by: k,
     }
 }
@@ -134,6 +133,7 @@ fn lengths(a: &[u16], b: &[u16]) -> Pieces
 }
 
 // The symbols of the right sides: the old starts, then those of both cards.
+#[tactic(auto, using(crate::proofs::PartLaws::first_limits))]
 fn rights(a: &[u16], b: &[u16]) -> Pieces
     requires { Alike a.now b.now }
     ensures { Gives a.now b.now result (merged_symbols a.now b.now) }
@@ -157,6 +157,7 @@ struct Sizes {
 }
 
 // Adds them up from both cards.
+#[tactic(auto, using(crate::proofs::PartLaws::first_limits, crate::proofs::PartLaws::second_limits))]
 fn sums(a: &[u16], b: &[u16]) -> Sizes
     requires { Alike a.now b.now }
     ensures { SizesOf a.now b.now result }
@@ -164,10 +165,11 @@ fn sums(a: &[u16], b: &[u16]) -> Sizes
     let n = 1 + card::nonterminals(a) + card::nonterminals(b);
     let p = 2 + card::productions(a) + card::productions(b);
     let l = 2 + card::symbols(a) + card::symbols(b);
-    Sizes { n: n, p: p, l: l }
+    Sizes { n, p, l }
 }
 
 // Writes the sizes of the merged card.
+#[tactic(auto, using(crate::proofs::SizeLaws::sizes_written))]
 fn header(a: &[u16], b: &[u16], out: &mut [u16])
     requires { Merging a.now b.now (length out.old) }
     ensures { out.new ≡ written 0 (merged_sizes a.now b.now) out.old }

@@ -1,13 +1,33 @@
 // Makes the table of a card and reads an input with it.
 #![tactic(auto)]
 
+ghost use Rattle.std.specs.Prelude.{◌≡◌};
+ghost use Rattle.recognizer.specs.declared.Refusal.TheVariants.{NoTable, Refused};
 ghost use Rattle.recognizer.specs.Outcome.{Recognizes, RecognizesRestricted};
 
-// The maker's answer where it made no table, or the reader's with the table made.
+use parser::Reading;
+
+// The maker's refusal, or the reader's with the table made.
 #[derive(Clone, Copy)]
-pub enum Outcome {
-    NoTable(generator::Answer),
-    Read(parser::Answer),
+pub enum Refusal {
+    NoTable(generator::Refusal),
+    Refused(table_checks::Refusal),
+}
+
+impl From<generator::Refusal> for Refusal {
+    ghost from_gives = { λ e r. r ≡ NoTable e };
+
+    fn from(e: generator::Refusal) -> Refusal {
+        Refusal::NoTable(e)
+    }
+}
+
+impl From<table_checks::Refusal> for Refusal {
+    ghost from_gives = { λ e r. r ≡ Refused e };
+
+    fn from(e: table_checks::Refusal) -> Refusal {
+        Refusal::Refused(e)
+    }
 }
 
 // Every card, input, step limit and area is answered, and what is answered of the input is what the grammar says.
@@ -21,7 +41,7 @@ pub fn recognize(
     stack: &mut [u16],
     list: &mut [u16],
     second: &mut [u16],
-) -> Outcome
+) -> Result<Reading, Refusal>
     ensures { Recognizes card.now input.now step_limit table.old words.old halves.old stack.old list.old second.old result table.new words.new halves.new stack.new list.new second.new }
 {
     recognize_restricted(
@@ -41,15 +61,9 @@ pub fn recognize_restricted(
     stack: &mut [u16],
     list: &mut [u16],
     second: &mut [u16],
-) -> Outcome
+) -> Result<Reading, Refusal>
     ensures { RecognizesRestricted card.now input.now «closed» step_limit table.old words.old halves.old stack.old list.old second.old result table.new words.new halves.new stack.new list.new second.new }
 {
-    let made = generator::generate(card, table, words, halves);
-    match made {
-        generator::Answer::Table => {
-            let r = parser::parse_restricted(table, input, closed, stack, list, second, step_limit);
-            Outcome::Read(r)
-        }
-        _ => Outcome::NoTable(made),
-    }
+    generator::generate(card, table, words, halves)?;
+    Ok(parser::parse_restricted(table, input, closed, stack, list, second, step_limit)?)
 }

@@ -1,23 +1,23 @@
 -- Lengths that no production lessens are the shortest ones, and the word at the start's place, with the production used, is a sample.
-use mathlib.Core.Path.{◌≡◌, refl, sym, ap, subst, ◌∙◌}
-use mathlib.Core.Bool.{Bool, true, false, not, ◌&&◌}
-use mathlib.Core.List.{List, [], ◌∷◌, ◌++◌, append_assoc, append-nil}
-use mathlib.Core.Logic.{◌⊎◌, inl, inr, ⊎_elim}
-use Prim.Native.Nat.{ℕ, zero, suc, ◌+◌, ◌-◌, ◌≤◌, ◌<◌, min}
+use Rattle.std.specs.Prelude.{Option, Some, None}
+use mathlib.Core.Path.{◌≡◌, refl, sym, ap, ◌∙◌}
+use mathlib.Core.Bool.{Bool, true, false}
+use mathlib.Core.List.{List, [], ◌++◌, append_assoc, append-nil}
+use mathlib.Core.Logic.{◌⊎◌, ⊎_elim}
+use Prim.Native.Nat.{ℕ, ◌+◌, ◌-◌, ◌≤◌, ◌<◌}
 use native.Mathlib.Omega.{arith}
-use lib.Dec.{eqb}
 use lib.ListN.{length, get_or, drop, replicate, length-append}
 use lib.Seq.{drop-nil}
 use borrow.Author.Tests.{eq-eqb, ne_eqb}
 use Rattle.sets.specs.Lists.{covered}
-use Rattle.sets.proofs.HasLaws.{eq_or, lt_or_ge}
+use Rattle.sets.proofs.HasLaws.{eq_or}
 use Rattle.grammar.specs.Grammar.{Formed}
 use Rattle.grammar.specs.Card.{terminals, productions, left_of, right_of, grammar_of, form_fault}
 use Rattle.grammar.proofs.CardLaws.{well_formed, formed}
 use Rattle.grammar.proofs.Yield.{Yields, nil, terminal, nonterminal, yield_terminals}
 use Rattle.sample_words.specs.Sample.{Uses, Sample}
-use Rattle.sample_words.specs.Words.{key_of, count_of, plain_sum, used_sum, sum_of, Among, here, there, Known, Words, left_key, within, Still}
-use Rattle.sample_words.proofs.SumLaws.{key_used, count_plain, count_used, count_nonterminal}
+use Rattle.sample_words.specs.Words.{key_of, count_of, plain_sum, used_sum, sum_of, Among, Known, Words, within}
+use Rattle.sample_words.proofs.SumLaws.{key_used, count_plain, count_nonterminal}
 use Rattle.sample.specs.Search.{StillFrom, Takes, Finds, found, none}
 use Rattle.sample.proofs.UseLaws.{among_middle, yields_uses, uses_yields}
 
@@ -90,17 +90,11 @@ covered_behind l old = rw (drop-nil {A = ℕ} 255, append-nil) (append_assoc l (
 
 -- what was taken from the tables is a sample
 module _ (c e : List ℕ) (w : List (List ℕ)) (m : ℕ) (fault : form_fault c ≡ 0) (h : m < productions c) (k : Words c m e w) (still : StillFrom c m 0 e) where
-  taken : {old new : List ℕ} (line : List ℕ) → Sample (grammar_of c) m line → get_or w 60 [] ≡ covered 255 line [] → {n : ℕ} → n ≡ length line → n ≤ 255 → new ≡ get_or w 60 [] ++ drop 255 old → Finds c m old n new
+  taken : {old new : List ℕ} (line : List ℕ) → Sample (grammar_of c) m line → get_or w 60 [] ≡ covered 255 line [] → {n : ℕ} → n ≡ length line → n ≤ 255 → new ≡ get_or w 60 [] ++ drop 255 old → Finds c m old (Some n) new
   taken {old} line s i j l o = rw (j, o, i, covered_behind line old) (found line s (rw j at l))
 
-  pub finds : {old new : List ℕ} {n : ℕ} → Takes e w old n new → Finds c m old n new
-  finds {n = n} t =
-      ⊎_elim
-      (λ (l : n ≤ 255).
-      let r = sample_row c e m fault still w k h (rw t.told at l) in
-      taken r.line r.sample r.held (t.told ∙ sym r.long) l (t.written l))
-      (λ (l : 255 < n). rw (t.kept l) (none l (no_sample c e m fault still w k h (rw t.told at l))))
-      (le_or_gt n)
-    where
-      le_or_gt : (n : ℕ) → (n ≤ 255) ⊎ (255 < n)
-      le_or_gt n = ⊎_elim (λ (g : 255 < n). inr g) (λ g. inl g) (lt_or_ge 255 n)
+  pub finds : {old new : List ℕ} (o : Option ℕ) → Takes e w old o new → Finds c m old o new
+  finds (Some n) t =
+      let r = sample_row c e m fault still w k h (rw t.0 at t.1) in
+      taken r.line r.sample r.held (t.0 ∙ sym r.long) t.1 t.2
+  finds None t = rw t.1 (none (no_sample c e m fault still w k h t.0))

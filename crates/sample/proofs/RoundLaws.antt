@@ -1,18 +1,15 @@
 -- Rounds: what one after the other lessens, and the tables at the beginning.
 use mathlib.Core.Path.{◌≡◌, refl, sym, subst, ◌∙◌}
-use mathlib.Core.Bool.{Bool, true, false, ◌||◌, false≢true}
-use mathlib.Core.List.{List, [], ◌∷◌, ◌++◌, append_assoc}
+use mathlib.Core.Bool.{Bool, true, false, ◌||◌}
+use mathlib.Core.List.{List, []}
 use mathlib.Core.Logic.{⊎_elim}
-use Prim.Native.Nat.{ℕ, ◌+◌, ◌-◌, ◌≤◌, ◌<◌}
+use Prim.Native.Nat.{ℕ, ◌+◌}
 use native.Mathlib.Omega.{arith}
-use native.Mathlib.Numerals.{add-one}
-use lib.ListN.{length, get_or, take, drop, set, replicate, length-replicate, get_or-replicate, length-append, length-drop}
-use lib.Seq.{take-suc, take_all, length-take-le, set_at, drop-cons}
+use lib.ListN.{replicate, length-replicate, get_or-replicate}
 use Rattle.sets.proofs.HasLaws.{eq_or}
 use Rattle.grammar.specs.Card.{productions}
-use Rattle.nonterminals.specs.Lessening.{mass}
 use Rattle.nonterminals.proofs.LengthLaws.{at_most}
-use Rattle.sample_words.specs.Words.{key_of, Words, Wide, Still, Lower, same, lower}
+use Rattle.sample_words.specs.Words.{key_of, Words, Still, Lower, same, lower}
 use Rattle.sample_words.proofs.SumLaws.{key_below}
 use Rattle.sample.specs.Search.{StillFrom}
 
@@ -22,14 +19,6 @@ lower_both {e₂ = e₂} P Q R f (same i p) (same j q) = same (j ∙ i) (f e₂ 
 lower_both P Q R f (same i p) (lower l) = lower (rw i at l)
 lower_both P Q R f (lower k) (same j q) = lower (rw j k)
 lower_both P Q R f (lower k) (lower l) = lower (omega arith)
-
-pub lower_true : {e₀ e : List ℕ} {b : Bool} {P : List ℕ → Type 0} → Lower e₀ e P b → b ≡ true → mass e < mass e₀
-lower_true (same i p) h = absurd (false≢true h)
-lower_true (lower l) h = l
-
-pub lower_false : {e₀ e : List ℕ} {b : Bool} {P : List ℕ → Type 0} → Lower e₀ e P b → b ≡ false → P e
-lower_false (same i p) h = p
-lower_false (lower l) h = absurd (false≢true (sym h))
 
 module _ (c : List ℕ) (m : ℕ) where
   both_still : (r : ℕ) (l : List ℕ) → Still c m l true r → Still c m l false r → (u : Bool) → Still c m l u r
@@ -56,19 +45,3 @@ module _ (c : List ℕ) (m : ℕ) where
         wide = λ k h. rw (get_or-replicate {A = List ℕ} 120 k (replicate {A = ℕ} 255 0) [] h) (length-replicate {A = ℕ} 255 0);
         known = λ u j h k. absurd (omega (arith, get_or-replicate {A = ℕ} 120 (key_of u j) 256 0 (key_below u h)));
       }
-
--- a row copied as far as i
-module _ (row old : List ℕ) (long : length row ≡ 255) (room : 255 ≤ length old) where
-  pub copied_none : old ≡ take 0 row ++ drop 0 old
-  copied_none = refl
-
-  pub copied_more : (i : ℕ) → i < 255 → set (take i row ++ drop i old) i (get_or row i 0) ≡ take (i + 1) row ++ drop (i + 1) old
-  copied_more i h =
-      rw (add-one, drop-cons old i 0 (omega arith), take-suc row i 0 (omega arith))
-      (set_at (take i row) (get_or old i 0) _ (get_or row i 0) i (length-take-le i row (omega arith)) ∙ sym (append_assoc (take i row) (get_or row i 0 ∷ []) _))
-
-  pub copied_long : (i : ℕ) → i ≤ 255 → length (take i row ++ drop i old) ≡ length old
-  copied_long i h = let t = length-take-le i row (omega arith) in omega (arith, length-append (take i row) (drop i old), length-drop i old)
-
-  pub copied_all : (i : ℕ) → i ≡ 255 → take i row ++ drop i old ≡ row ++ drop 255 old
-  copied_all i h = rw (h, take_all 255 row (omega arith))

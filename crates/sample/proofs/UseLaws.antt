@@ -1,10 +1,10 @@
 -- A derivation that uses a production, by steps, as a rightmost derivation and as a yield whose productions have it among them.
-use mathlib.Core.Path.{◌≡◌, refl, sym, subst, ◌∙◌}
-use mathlib.Core.List.{List, [], ◌∷◌, ◌++◌, append_assoc, append-nil, reverse, reverse-cons}
+use mathlib.Core.Path.{◌≡◌, refl}
+use mathlib.Core.List.{List, [], ◌∷◌, ◌++◌, append-nil, reverse, reverse-cons}
 use mathlib.Core.Logic.{◌⊎◌, inl, inr, ⊎_elim}
 use Prim.Native.Nat.{ℕ, ◌<◌}
 use Rattle.grammar.specs.Grammar.{Grammar, Symbols, Derives, Rightmost, Sentence}
-use Rattle.grammar.proofs.Yield.{Yields, nil, terminal, nonterminal, append, Split, parts, split}
+use Rattle.grammar.proofs.Yield.{Yields, nonterminal, append, Split, parts, split}
 use Rattle.grammar.proofs.Derive.{derives_yields, yields_rightmost, rightmost_derives, derives_trans}
 use Rattle.sample_words.specs.Sample.{Uses}
 use Rattle.sample_words.specs.Words.{Among, here, there}

@@ -1,5 +1,5 @@
 -- The terminals of a right side, put one behind the other.
-use mathlib.Core.Path.{◌≡◌, refl, sym, ap, ◌∙◌}
+use mathlib.Core.Path.{◌≡◌, refl, sym, ◌∙◌}
 use mathlib.Core.Bool.{Bool, true, false}
 use mathlib.Core.List.{List, [], ◌∷◌, ◌++◌, append_assoc, append-nil}
 use mathlib.Core.Logic.{⊎_elim}
@@ -9,14 +9,18 @@ use native.Mathlib.Numerals.{add-one}
 use native.Mathlib.Nat.{eq-or-lt_of_le}
 use lib.Dec.{eqb}
 use lib.ListN.{length, get_or, take, set, replicate, length-append}
-use lib.Seq.{set_at, take-suc, length-take-le}
-use borrow.Author.Tests.{lt-ltb, le-ltb}
+use lib.Seq.{set_at, take_at, drop_at, drop-nil, length-take-le}
+use borrow.Author.Tests.{lt-ltb, le-ltb, ne_eqb}
+use Rattle.std.specs.Prelude.{Option, Some, None}
+use Rattle.std.specs.Option.{option_eq}
+use borrow.Rule.Slice.PartMut.{put_mid}
+use Rattle.std.proofs.lemmas.List.{drop-replicate}
 use Rattle.sets.specs.Lists.{covered}
 use Rattle.sets.proofs.HasLaws.{lt_or_ge}
-use Rattle.grammar.specs.Card.{terminals, nonterminals, productions, length_of, form_fault}
+use Rattle.grammar.specs.Card.{terminals, nonterminals, productions, length_of, symbol_of, start_of, form_fault}
 use Rattle.grammar.proofs.CardLaws.{well_formed}
 use Rattle.nonterminals.proofs.WordLaws.{right_symbol}
-use Rattle.sample_words.specs.Words.{key_of, count_of, placed_sum, symbol_at, piece_of, composed, Wide}
+use Rattle.sample_words.specs.Words.{key_of, count_of, placed_sum, place_of, symbol_at, piece_of, composed, Wide}
 use Rattle.sample_words.proofs.SumLaws.{key_below, count_plain, count_used, count_nonterminal}
 
 -- one number more in front of the zeros
@@ -30,19 +34,28 @@ covered_write n u area s h =
 pub one_more : {b : List ℕ} {m : ℕ} (v : List ℕ) (x : ℕ) → m < 255 → length v ≡ m → b ≡ covered 255 v [] → set b m x ≡ covered 255 (v ++ x ∷ []) []
 one_more v x h l e = rw (e, ← l) (covered_write 255 v [] x (omega arith))
 
--- after i bytes of a row
-module _ (b₀ : List ℕ) (m : ℕ) (row : List ℕ) where
-  abbrev pub Appended : ℕ → List ℕ → Type 0
-  Appended i b = (v : List ℕ) → length v ≡ m → b₀ ≡ covered 255 v [] → b ≡ covered 255 (v ++ take i row) []
+-- n bytes of a row behind m numbers
+pub appended : {b : List ℕ} {m : ℕ} (v row : List ℕ) (n : ℕ) → m + n ≤ 255 → n ≤ length row → length v ≡ m → b ≡ covered 255 v []
+    → put_mid m (m + n - m) b (take n row) ≡ covered 255 (v ++ take n row) []
+unfolding covered
+appended {m = m} v row n h k l e =
+    let t : length (take n row) ≡ n = length-take-le n row k in
+    let j : m + n - m ≡ n = omega arith in
+    let i : 255 - length v - n ≡ 255 - length (v ++ take n row) = omega (arith, length-append v (take n row)) in
+    rw (e, j, ← l, take_at v _ (length v) refl, drop_at v _ (length v) refl, drop-nil {A = ℕ} 255, append-nil, drop-replicate {X = ℕ} n (255 - length v) 0, i, append-nil)
+    (sym (append_assoc v (take n row) _))
 
-  pub appended_none : Appended 0 b₀
-  appended_none v l e = rw (append-nil v) e
+-- the symbol d of production r, in the values of a loop
+pub turn_symbol : (c : List ℕ) → form_fault c ≡ 0 → (r d : ℕ) → r < productions c → d < length_of c r → {s n x : ℕ} → s ≡ start_of c r → n ≡ d → x ≡ symbol_of c (s + n)
+    → (x ≡ symbol_at c r d) × (x < terminals c + nonterminals c)
+turn_symbol c fault r d h k {s} {n} {x} es en ex =
+    let e : x ≡ symbol_at c r d = ex ∙ rw (es, en) refl in
+    (e, rw e (right_symbol c fault r d h k))
 
-  pub appended_more : (i : ℕ) {b : List ℕ} → length row ≡ 255 → m + i < 255 → Appended i b → Appended (i + 1) (set b (m + i) (get_or row i 0))
-  appended_more i long h a v l e =
-      let t = length-take-le i row (omega arith) in
-      let n : m + i ≡ length (v ++ take i row) = omega (arith, length-append v (take i row)) in
-      rw (add-one, take-suc row i 0 (omega arith), n, a v l e) (covered_write 255 (v ++ take i row) [] (get_or row i 0) (omega arith) ∙ ap (λ (k : List ℕ). covered 255 k []) (append_assoc v (take i row) (get_or row i 0 ∷ [])))
+-- whether the symbol d is the one that uses the production
+pub at_place : (c : List ℕ) (r d : ℕ) → d < length_of c r → (o : Option ℕ) → option_eq eqb (Some d) o ≡ eqb d (place_of c r o)
+at_place c r d h (Some p) = refl
+at_place c r d h None = sym (ne_eqb d (length_of c r) (λ e. omega arith))
 
 pub one_long : (c e : List ℕ) (u : Bool) (x : ℕ) → x < terminals c → count_of c e u x ≤ 255 → 1 ≡ count_of c e u x
 one_long c e true x h k = absurd (omega (arith, count_used c e x h))

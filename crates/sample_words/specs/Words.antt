@@ -1,6 +1,6 @@
 -- How a sample is found: for each nonterminal the shortest string of terminals known so far, and the shortest known by a derivation that uses
 -- the named production. Production after production lessens what is known of its left side, until none does. Only the functions cite this.
-use Rattle.std.specs.Prelude.{ℕ, zero, suc, ◌+◌, ◌-◌, ◌≤◌, ◌<◌, min, ◌≡◌, Bool, true, false, not, ◌&&◌, cond, List, [], ◌∷◌, ltb, eqb, length, get_or, take}
+use Rattle.std.specs.Prelude.{ℕ, zero, suc, ◌+◌, ◌-◌, ◌≤◌, ◌<◌, min, ◌≡◌, Bool, true, false, not, ◌&&◌, cond, List, [], ◌∷◌, ltb, eqb, length, get_or, take, Option, Some, None}
 use Rattle.sets.specs.Lists.{each, covered}
 use Rattle.grammar.specs.Card.{terminals, left_of, right_of, length_of, symbol_of, start_of, grammar_of}
 use Rattle.grammar.proofs.Yield.{Yields}
@@ -38,6 +38,11 @@ symbol_at c r i = symbol_of c (start_of c r + i)
 unfoldable pub placed_sum : List ℕ → List ℕ → ℕ → ℕ → ℕ → ℕ
 placed_sum c e r p zero = 0
 placed_sum c e r p (suc d) = placed_sum c e r p d + count_of c e (eqb d p) (symbol_at c r d)
+
+-- the place, or one behind the right side of r for none
+abbrev pub place_of : List ℕ → ℕ → Option ℕ → ℕ
+place_of c r (Some d) = d
+place_of c r None = length_of c r
 
 -- the least sum of the right side of r, and a place at which it comes
 pub record Best (c e : List ℕ) (r : ℕ) (u : Bool) (sum place : ℕ) : Type 0 where

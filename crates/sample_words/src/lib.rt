@@ -5,9 +5,18 @@
 ghost use Rattle.std.specs.Prelude.{◌≡◌, true, List, [], ◌++◌, ℕ, ◌+◌, ◌≤◌, ◌<◌, eqb, length, take, get_or, set};
 ghost use Rattle.sets.specs.Lists.{covered};
 ghost use Rattle.grammar.specs.Card.{terminals, nonterminals, productions, length_of, start_of, symbol_of, form_fault};
-ghost use Rattle.sample_words.specs.Words.{key_of, count_of, placed_sum, Best, piece_of, composed, Lengths, Wide, Words, left_key, within as within_of, Still, Lower};
+ghost use Rattle.sample_words.specs.Words.{key_of, count_of, placed_sum, place_of, Best, piece_of, composed, Lengths, Wide, Words, left_key, within as within_of, Still, Lower};
+
+// What is known: the lengths of words, 256 for none, and the words, each with zeros behind it. Those by a derivation that uses the
+// named production stand 60 places on.
+#[derive(Drop)]
+pub struct Table {
+    pub lengths: [u16; 120],
+    pub words: [[u8; 255]; 120],
+}
 
 // The place of nonterminal T + j.
+#[tactic(auto, unfolding(crate::specs::Words::key_of))]
 fn key(u: bool, j: usize) -> usize
     requires { j < 60 }
     ensures { (result ≡ key_of u j) × (result < 120) }
@@ -16,52 +25,53 @@ fn key(u: bool, j: usize) -> usize
 }
 
 // What symbol x counts.
-fn count(c: &[u16], e: &[u16; 120], u: bool, x: u16) -> u32
-    requires { (form_fault c.now ≡ 0) × (x < terminals c.now + nonterminals c.now) × Lengths e.now }
-    ensures { (result ≡ count_of c.now e.now u x) × (result ≤ 256) }
+fn count(c: &[u16], table: &Table, u: bool, x: u16) -> u32
+    requires { (form_fault c.now ≡ 0) × (x < terminals c.now + nonterminals c.now) × Lengths table.now.lengths }
+    ensures { (result ≡ count_of c.now table.now.lengths u x) × (result ≤ 256) }
 {
     let t = card::terminals(c);
     if t <= x {
-        return card::wider(e[key(u, card::wide(x - t))]);
+        u32::from(table.lengths[key(u, usize::from(x - t))])
+    } else if u {
+        256
+    } else {
+        1
     }
-    if u { 256 } else { 1 }
 }
 
-// The least sum of a right side, and the place of the symbol in it that uses the production; the right side's length for none.
+// The least sum of a right side, and the place of the symbol in it that uses the production, if one does.
 #[derive(Clone, Copy)]
 struct Found {
     sum: u32,
-    place: u16,
+    place: Option<u16>,
 }
 
 // Those of production r, whose symbols begin at s; with u a symbol has to use the production.
-fn best(c: &[u16], e: &[u16; 120], r: u16, s: u32, u: bool) -> Found
-    requires { (form_fault c.now ≡ 0) × (r < productions c.now) × (s ≡ start_of c.now r) × Lengths e.now }
-    ensures { Best c.now e.now r u result.sum result.place }
+fn best(c: &[u16], table: &Table, r: u16, s: u32, u: bool) -> Found
+    requires { (form_fault c.now ≡ 0) × (r < productions c.now) × (s ≡ start_of c.now r) × Lengths table.now.lengths }
+    ensures { Best c.now table.now.lengths r u result.sum (place_of c.now r result.place) }
 {
-    let n = card::length(c, r);
     let mut plain: u32 = 0;
     let mut used: u32 = 256;
-    let mut place = n;
-    let mut d: u16 = 0;
-    while d < n {
-        let x = card::symbol(c, s + card::wider(d));
-        let here = plain + count(c, e, true, x);
-        let m = count(c, e, false, x);
+    let mut place = None;
+    for d in 0..card::length(c, r) {
+        let x = card::symbol(c, s + u32::from(d));
+        let here = plain + count(c, table, true, x);
+        let m = count(c, table, false, x);
         plain += m;
         used += m;
         if here < used {
             used = here;
-            place = d;
+            place = Some(d);
         }
-        d += 1;
     }
     if u {
-        return Found { sum: used, place };
-    }
-    Found {
-        sum: plain,
-        place: n,
+        Found { sum: used, place }
+    } else {
+        Found {
+            sum: plain,
+            place: None,
+        }
     }
 }
 
@@ -70,64 +80,43 @@ fn append(b: &mut [u8; 255], m: usize, row: &[u8; 255], n: usize)
     requires { (m + n ≤ 255) × (length row.now ≡ 255) }
     ensures { (v : List ℕ) → length v ≡ m → b.old ≡ covered 255 v [] → b.new ≡ covered 255 (v ++ take n row.now) [] }
 {
-    let mut i: usize = 0;
-    while i < n {
-        b[m + i] = row[i];
-        i += 1;
-    }
+    b[m..m + n].copy_from_slice(&row[..n]);
 }
 
 // Writes the word at place k behind the m bytes of b; gives how many bytes there are then.
-fn put_word(e: &[u16; 120], w: &[[u8; 255]; 120], b: &mut [u8; 255], m: usize, k: usize) -> usize
-    requires { (k < 120) × (m + get_or e.now k 0 ≤ 255) × Wide w.now }
-    ensures { (result ≡ m + get_or e.now k 0) × ((v : List ℕ) → length v ≡ m → b.old ≡ covered 255 v [] → b.new ≡ covered 255 (v ++ take (get_or e.now k 0) (get_or w.now k [])) []) }
+fn put_word(table: &Table, b: &mut [u8; 255], m: usize, k: usize) -> usize
+    requires { (k < 120) × (m + get_or table.now.lengths k 0 ≤ 255) × Wide table.now.words }
+    ensures { (result ≡ m + get_or table.now.lengths k 0) × ((v : List ℕ) → length v ≡ m → b.old ≡ covered 255 v [] → b.new ≡ covered 255 (v ++ take (get_or table.now.lengths k 0) (get_or table.now.words k [])) []) }
 {
-    let n = card::wide(e[k]);
-    append(b, m, &w[k], n);
+    let n = usize::from(table.lengths[k]);
+    append(b, m, &table.words[k], n);
     m + n
 }
 
 // Writes the terminals of symbol x behind the m bytes of b; gives how many bytes there are then.
-fn put(
-    c: &[u16],
-    e: &[u16; 120],
-    w: &[[u8; 255]; 120],
-    b: &mut [u8; 255],
-    m: usize,
-    u: bool,
-    x: u16,
-) -> usize
-    requires { (form_fault c.now ≡ 0) × (x < terminals c.now + nonterminals c.now) × (m + count_of c.now e.now u x ≤ 255) × Wide w.now }
-    ensures { (result ≡ m + count_of c.now e.now u x) × ((v : List ℕ) → length v ≡ m → b.old ≡ covered 255 v [] → b.new ≡ covered 255 (v ++ piece_of c.now e.now w.now u x) []) }
+fn put(c: &[u16], table: &Table, b: &mut [u8; 255], m: usize, u: bool, x: u16) -> usize
+    requires { (form_fault c.now ≡ 0) × (x < terminals c.now + nonterminals c.now) × (m + count_of c.now table.now.lengths u x ≤ 255) × Wide table.now.words }
+    ensures { (result ≡ m + count_of c.now table.now.lengths u x) × ((v : List ℕ) → length v ≡ m → b.old ≡ covered 255 v [] → b.new ≡ covered 255 (v ++ piece_of c.now table.now.lengths table.now.words u x) []) }
 {
     let t = card::terminals(c);
     if t <= x {
-        return put_word(e, w, b, m, key(u, card::wide(x - t)));
+        put_word(table, b, m, key(u, usize::from(x - t)))
+    } else {
+        b[m] = x as u8;
+        m + 1
     }
-    b[m] = x as u8;
-    m + 1
 }
 
 // The terminals of production r's right side, whose symbols begin at s, where the one at `place` uses the production.
-fn compose(c: &[u16], e: &[u16; 120], w: &[[u8; 255]; 120], r: u16, s: u32, place: u16) -> [u8; 255]
-    requires { (form_fault c.now ≡ 0) × (r < productions c.now) × (s ≡ start_of c.now r) × (placed_sum c.now e.now r place (length_of c.now r) ≤ 255) × Lengths e.now × Wide w.now }
-    ensures { result ≡ covered 255 (composed c.now e.now w.now r place (length_of c.now r)) [] }
+fn compose(c: &[u16], table: &Table, r: u16, s: u32, place: Option<u16>) -> [u8; 255]
+    requires { (form_fault c.now ≡ 0) × (r < productions c.now) × (s ≡ start_of c.now r) × (placed_sum c.now table.now.lengths r (place_of c.now r place) (length_of c.now r) ≤ 255) × Lengths table.now.lengths × Wide table.now.words }
+    ensures { result ≡ covered 255 (composed c.now table.now.lengths table.now.words r (place_of c.now r place) (length_of c.now r)) [] }
 {
-    let n = card::length(c, r);
     let mut b = [0u8; 255];
     let mut m: usize = 0;
-    let mut d: u16 = 0;
-    while d < n {
-        m = put(
-            c,
-            e,
-            w,
-            &mut b,
-            m,
-            d == place,
-            card::symbol(c, s + card::wider(d)),
-        );
-        d += 1;
+    for d in 0..card::length(c, r) {
+        let x = card::symbol(c, s + u32::from(d));
+        m = put(c, table, &mut b, m, Some(d) == place, x);
     }
     b
 }
@@ -144,45 +133,30 @@ fn left_key(c: &[u16], u: bool, r: u16) -> usize
     requires { (form_fault c.now ≡ 0) × (r < productions c.now) }
     ensures { (result ≡ left_key c.now u r) × (result < 120) }
 {
-    key(u, card::wide(card::left(c, r) - card::terminals(c)))
+    key(u, usize::from(card::left(c, r) - card::terminals(c)))
 }
 
 // Writes the sum f and the terminals of production r's right side, whose symbols begin at s, to place k.
-fn store(
-    c: &[u16],
-    e: &mut [u16; 120],
-    w: &mut [[u8; 255]; 120],
-    r: u16,
-    s: u32,
-    k: usize,
-    f: Found,
-)
-    requires { (form_fault c.now ≡ 0) × (r < productions c.now) × (s ≡ start_of c.now r) × (k < 120) × (f.sum ≤ 255) × (placed_sum c.now e.old r f.place (length_of c.now r) ≤ 255) × Lengths e.old × Wide w.old }
-    ensures { (e.new ≡ set e.old k f.sum) × (w.new ≡ set w.old k (covered 255 (composed c.now e.old w.old r f.place (length_of c.now r)) [])) }
+fn store(c: &[u16], table: &mut Table, r: u16, s: u32, k: usize, f: Found)
+    requires { (form_fault c.now ≡ 0) × (r < productions c.now) × (s ≡ start_of c.now r) × (k < 120) × (f.sum ≤ 255) × (placed_sum c.now table.old.lengths r (place_of c.now r f.place) (length_of c.now r) ≤ 255) × Lengths table.old.lengths × Wide table.old.words }
+    ensures { (table.new.lengths ≡ set table.old.lengths k f.sum) × (table.new.words ≡ set table.old.words k (covered 255 (composed c.now table.old.lengths table.old.words r (place_of c.now r f.place) (length_of c.now r)) [])) }
 {
-    w[k] = compose(c, e, w, r, s, f.place);
-    e[k] = f.sum as u16;
+    let word = compose(c, table, r, s, f.place);
+    table.words[k] = word;
+    table.lengths[k] = f.sum as u16;
 }
 
 // Lessens what is known of the left side of production r, whose symbols begin at s, to what its right side gives, where that is shorter;
 // with u it has to use production m. Whether it was.
-pub fn lessen(
-    c: &[u16],
-    m: u16,
-    e: &mut [u16; 120],
-    w: &mut [[u8; 255]; 120],
-    r: u16,
-    s: u32,
-    u: bool,
-) -> bool
-    requires { (form_fault c.now ≡ 0) × (r < productions c.now) × (s ≡ start_of c.now r) × Words c.now m e.old w.old }
-    ensures { Words c.now m e.new w.new × Lower e.old e.new (λ l. Still c.now m l u r) result }
+pub fn lessen(c: &[u16], m: u16, table: &mut Table, r: u16, s: u32, u: bool) -> bool
+    requires { (form_fault c.now ≡ 0) × (r < productions c.now) × (s ≡ start_of c.now r) × Words c.now m table.old.lengths table.old.words }
+    ensures { Words c.now m table.new.lengths table.new.words × Lower table.old.lengths table.new.lengths (λ l. Still c.now m l u r) result }
 {
     let k = left_key(c, u, r);
-    let f = best(c, e, r, s, within(m, u, r));
-    if card::wider(e[k]) <= f.sum {
+    let f = best(c, table, r, s, within(m, u, r));
+    if u32::from(table.lengths[k]) <= f.sum {
         return false;
     }
-    store(c, e, w, r, s, k, f);
+    store(c, table, r, s, k, f);
     true
 }
