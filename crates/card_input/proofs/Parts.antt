@@ -1,30 +1,26 @@
 -- What was fed in two parts was fed as one, the end of the input feeds nothing, and what it makes of the scan.
 use Rattle.std.proofs.Common.{◌≡◌, refl, sym, ap, ◌∙◌, List, [], ◌++◌, ℕ, ◌≤◌, length, IfSome, subst, arith}
-use Rattle.std.specs.declared.option.Option.{Option}
-use Rattle.std.specs.declared.option.Option.TheVariants as option
+use Rattle.std.specs.Prelude.{Option, Some, None, Ok}
 use Rattle.std.specs.Io.KnownBytes.{Keeps, IsAtEnd}
 use Rattle.std.proofs.KnownBytes.{Consumes-nil, Consumes-kept, Consumes-trans, Consumes-whole}
 use lib.Seq.{length-take-le}
 use Rattle.decimal.specs.declared.scanner.Scan.{Scan}
 use Rattle.decimal.specs.declared.scanner.Scan.TheVariants.{Between}
-use Rattle.decimal.specs.declared.scanner.Found.{Found}
-use Rattle.decimal.specs.declared.scanner.Found.TheVariants.{Numbers, NotACard}
-use Rattle.decimal.specs.Form.{Card}
-use Rattle.decimal.specs.Scanning.{Fed, fed_of, fed, found_of, Within}
+use Rattle.decimal.specs.Scanning.{Fed, fed_of, fed, found_of}
 use Rattle.decimal.proofs.Chunks.{fed_append}
 use Rattle.decimal.proofs.Scanned.{finished_room, finished_card, finished_none}
-use Rattle.card_input.specs.Reading.{card_size, CardCame, Some}
+use Rattle.card_input.specs.Reading.{card_size, FedMore, Came}
 
-pub none : (old : Option (List ℕ)) (f : Fed) → Some old old f f
+pub none : (old : Option (List ℕ)) (f : Fed) → FedMore old old f f
 unfolding fed
 none old f = ([], refl, Consumes-nil old)
 
 -- a read that brought nothing
-pub kept : (old new : Option (List ℕ)) (f : Fed) → Keeps old new → Some old new f f
+pub kept : (old new : Option (List ℕ)) (f : Fed) → Keeps old new → FedMore old new f f
 unfolding fed
 kept old new f k = ([], refl, Consumes-kept old old new [] (Consumes-nil old) k)
 
-pub joined : (old mid new : Option (List ℕ)) (f g h : Fed) → Some old mid f g → Some mid new g h → Some old new f h
+pub joined : (old mid new : Option (List ℕ)) (f g h : Fed) → FedMore old mid f g → FedMore mid new g h → FedMore old new f h
 joined old mid new f g h a b = (
   a.0 ++ b.0,
   b.1 ∙ ap (λ (k : Fed). fed k b.0) a.1 ∙ sym (fed_append f a.0 b.0),
@@ -32,7 +28,7 @@ joined old mid new f g h a b = (
 )
 
 -- the end of the input
-pub ended : (old mid new : Option (List ℕ)) (f : Fed) (a b : List ℕ) (s : Scan) → Some old mid f (fed_of a s) → b ≡ a → Keeps mid new → IsAtEnd new
+pub ended : (old mid new : Option (List ℕ)) (f : Fed) (a b : List ℕ) (s : Scan) → FedMore old mid f (fed_of a s) → b ≡ a → Keeps mid new → IsAtEnd new
     → (bs : List ℕ) × (fed_of b s ≡ fed f bs) × IfSome old (λ xs. bs ≡ xs)
 ended old mid new f a b s x e k end = (
   x.0,
@@ -42,17 +38,14 @@ ended old mid new f a b s x e k end = (
 
 -- what holds of the bytes that left a reader which is at its end holds of those that it had
 pub known : (old : Option (List ℕ)) (bs : List ℕ) (P : List ℕ → Type 0) → IfSome old (λ xs. bs ≡ xs) → P bs → IfSome old P
-known option.None bs P e p = tt
-known (option.Some xs) bs P e p = subst P e p
+known None bs P e p = tt
+known (Some xs) bs P e p = subst P e p
 
 -- a scan that ended, and what `finish` says of it
-module _ (s : Scan) (r : Found) (told : r ≡ found_of s) (a b bs : List ℕ) (room : length a ≡ card_size) (came : fed_of b s ≡ fed (fed_of a (Between 0)) bs) where
-  pub card_came : (n : ℕ) → r ≡ Numbers n → Within r → CardCame bs b n
-  card_came n e h =
-      let k : n ≤ card_size = rw e at h in
+module _ (s : Scan) (a b bs : List ℕ) (room : length a ≡ card_size) (came : fed_of b s ≡ fed (fed_of a (Between 0)) bs) where
+  pub answered : (r : Option ℕ) → r ≡ found_of s → IfSome r (λ n. n ≤ card_size) → Came bs b (Ok r)
+  answered (Some n) e h =
       let l : length b ≡ card_size = finished_room a b bs s room came in
       let u : n ≤ length b = omega arith in
-      record { card = finished_card a b bs s room came n (sym told ∙ e); used = (u, sym (length-take-le n b u)) }
-
-  pub other_came : r ≡ NotACard → (ns : List ℕ) → Card bs ns → ⊥
-  other_came e = finished_none a b bs s room came (sym told ∙ e)
+      record { card = finished_card a b bs s room came n (sym e); used = (u, sym (length-take-le n b u)) }
+  answered None e h = finished_none a b bs s room came (sym e)

@@ -2,47 +2,32 @@
 // What fails is told on standard error, behind the program's name.
 #![tactic(auto)]
 
-ghost use Rattle.std.specs.Prelude.{◌≡◌, List, ◌++◌, ℕ, length, IfSome};
+ghost use Rattle.std.specs.Prelude.{◌≡◌, List, ◌++◌, ℕ, IfSome};
 ghost use Rattle.decimal.specs.Page.{page_of, page, Used};
-ghost use Rattle.decimal.specs.Scanning.{fed_of, fed};
-ghost use Rattle.card_input.specs.Reading.{card_size, Taken, Scanned, Came};
+ghost use Rattle.card_input.specs.Reading.{Taken, Scanned, Came};
 
-use decimal::{Found, Scan};
+use decimal::{Page, Scan};
 use std::io::{self, Cursor, ErrorKind, Read, Write};
 
 // The most numbers that an input may have.
 pub const CARD: usize = 772;
 
-// A card, with how many numbers it has; an input of other form; or a read failed.
+// A read failed; standard error has the reason.
 #[derive(Clone, Copy)]
-pub enum Input {
-    Card(usize),
-    NotACard,
-    Failed,
-}
+pub struct ReadFailed;
 
-// All of the input, with where the scan stands then; or a read failed.
-#[derive(Clone, Copy)]
-enum Whole {
-    Scanned(Scan),
-    Failed,
-}
-
-// A read: bytes, with where the scan stands behind them, the end of the input, or a failure.
-#[derive(Clone, Copy)]
-enum Part {
-    Bytes(Scan),
-    End,
-    Failed,
-}
+// What was read: how many numbers the card has, none where the input is no card, or a failure.
+pub type Input = Result<Option<usize>, ReadFailed>;
 
 // A name and a text behind it, as much as there is room for.
 fn titled(out: &mut [u8], name: &[u8], text: &[u8]) -> usize
     ensures result_after { page_of out.new result ≡ page out.old (name.now ++ text.now) }
     ensures used { Used result out.new }
 {
-    let n = decimal::word(out, 0, name);
-    decimal::word(out, n, text)
+    let mut page = Page::new(out);
+    page.word(name);
+    page.word(text);
+    page.used()
 }
 
 // A failure's reason in the C library's words: std's text without ` (os error N)` behind it.
@@ -74,62 +59,49 @@ fn fail<E: Write>(errors: &mut E, name: &[u8], what: &[u8], error: &io::Error) {
     let _ = tell(errors, &line[..n], error);
 }
 
-// Reads once, and feeds the scan what came. A read that a signal interrupts brings no bytes.
+// Reads once, and feeds the scan what came: where it stands then, or none at the end of the input.
+// A read that a signal interrupts brings no bytes.
 fn read_some<R: Read, E: Write>(
     input: &mut R,
     errors: &mut E,
     name: &[u8],
     card: &mut [u16; CARD],
     s: Scan,
-) -> Part
+) -> Result<Option<Scan>, ReadFailed>
     ensures { Taken (R.remaining input.old) (R.remaining input.new) card.old s card.new result }
 {
     let mut buf = [0u8; 4096];
     match input.read(&mut buf) {
-        Ok(0) => Part::End,
-        Ok(n) => Part::Bytes(decimal::feed(card, s, &buf[..n])),
+        Ok(0) => Ok(None),
+        Ok(n) => Ok(Some(decimal::feed(card, s, &buf[..n]))),
+        Err(e) if e.kind() == ErrorKind::Interrupted => Ok(Some(s)),
         Err(e) => {
-            if e.kind() == ErrorKind::Interrupted {
-                return Part::Bytes(s);
-            }
             fail(errors, name, b": read", &e);
-            Part::Failed
+            Err(ReadFailed)
         }
     }
 }
 
-// Reads to the end of the input. A loop has to end, and nothing says that an input does: so it
-// takes at most so many turns that no run uses them up.
+// Reads to the end of the input: where the scan stands then. A loop has to end, and nothing says
+// that an input does: so it takes at most so many turns that no run uses them up.
 fn read_all<R: Read, E: Write>(
     input: &mut R,
     errors: &mut E,
     name: &[u8],
     card: &mut [u16; CARD],
-) -> Whole
+) -> Result<Scan, ReadFailed>
     ensures { Scanned (R.remaining input.old) card.old card.new result }
 {
     let mut s = Scan::Between(0);
     for _ in 0..u64::MAX {
-        match read_some(input, errors, name, card, s) {
-            Part::Bytes(t) => s = t,
-            Part::End => return Whole::Scanned(s),
-            Part::Failed => return Whole::Failed,
+        match read_some(input, errors, name, card, s)? {
+            Some(t) => s = t,
+            None => return Ok(s),
         }
     }
     let _ = errors.write_all(name);
     let _ = errors.write_all(b": read: input without end\n");
-    Whole::Failed
-}
-
-// What the end of the input makes of a scan, whatever bytes it was fed.
-fn ended(s: Scan) -> Input
-    ensures { (a b bs : List ℕ) → length a ≡ card_size → fed_of b s ≡ fed (fed_of a (Scan.Between 0)) bs → Came bs b result }
-{
-    let found = decimal::finish(s);
-    match found {
-        Found::Numbers(n) => Input::Card(n),
-        Found::NotACard => Input::NotACard,
-    }
+    Err(ReadFailed)
 }
 
 // Reads the input to its end. The numbers of a card then stand at the front of the area.
@@ -142,13 +114,8 @@ pub fn read<R: Read, E: Write>(
     ensures came { (bs : List ℕ) × Came bs card.new result }
     ensures known { IfSome (R.remaining input.old) (λ bs. Came bs card.new result) }
 {
-    let mut area = [0u16; CARD];
-    let all = read_all(input, errors, name, &mut area);
-    *card = area;
-    match all {
-        Whole::Scanned(s) => ended(s),
-        Whole::Failed => Input::Failed,
-    }
+    let s = read_all(input, errors, name, card)?;
+    Ok(decimal::finish(s))
 }
 
 // Writes a whole text to the output.
@@ -171,8 +138,8 @@ fn read_bytes(bytes: &[u8], card: &mut [u16; CARD]) -> Input
 fn bytes_are_read(rt: HostRuntime) {
     let mut card = [0u16; CARD];
     match read_bytes(b"7 65535\n0", &mut card) {
-        Input::Card(n) => assert!(rt; n == 3 && card[0] == 7 && card[1] == 65535 && card[2] == 0),
-        Input::NotACard | Input::Failed => assert!(rt; false),
+        Ok(Some(n)) => { assert!(rt; n == 3 && card[0] == 7 && card[1] == 65535 && card[2] == 0) }
+        _ => assert!(rt; false),
     }
-    assert!(rt; matches!(read_bytes(b"7 65536", &mut card), Input::NotACard));
+    assert!(rt; matches!(read_bytes(b"7 65536", &mut card), Ok(None)));
 }

@@ -1,13 +1,11 @@
 -- Chunks do not matter: feeding a list in parts is feeding it whole. And the area keeps its length.
-use mathlib.Core.Path.{◌≡◌, refl, ◌∙◌}
+use mathlib.Core.Path.{◌≡◌, refl, ap, ◌∙◌}
 use mathlib.Core.List.{List, [], ◌∷◌, ◌++◌}
 use mathlib.Core.Bool.{Bool, true, false, cond}
-use Prim.Native.Nat.{ℕ, ◌+◌, ◌*◌, ◌<◌, ◌≤◌}
-use native.Mathlib.Numerals.{add-one}
-use borrow.Author.Tests.{le-ltb}
-use lib.ListN.{length, get_or, set, drop, length-set, drop_of_length-le}
+use Prim.Native.Nat.{ℕ, ◌+◌, ◌*◌, ◌<◌}
+use lib.ListN.{length, get_or, set, take, length-set}
 use lib.Dec.{leb, ltb}
-use lib.Seq.{drop-cons}
+use Rattle.std.proofs.lemmas.List.{take_more}
 use Rattle.decimal.specs.declared.scanner.Class.{Class}
 use Rattle.decimal.specs.declared.scanner.Class.TheVariants.{Space, Digit, Other}
 use Rattle.decimal.specs.declared.scanner.Scan.{Scan}
@@ -19,24 +17,12 @@ unfolding fed
 fed_append f [] ys = refl
 fed_append f (x ∷ xs) ys = fed_append (fed_by f x) xs ys
 
--- one byte more, and the last one
-pub fed_next : (f g : Fed) (bs : List ℕ) (i : ℕ) → g ≡ fed_by f (get_or bs i 0) → i < length bs → fed g (drop (i + 1) bs) ≡ fed f (drop i bs)
+-- one byte more
+pub fed_next : (f g h : Fed) (bs : List ℕ) (i : ℕ) → i < length bs → g ≡ fed f (take i bs) → h ≡ fed_by g (get_or bs i 0) → h ≡ fed f (take (i + 1) bs)
 unfolding fed
-fed_next f g bs i e h = rw (e, add-one, drop-cons bs i 0)
-
-pub fed_done : (f : Fed) (bs : List ℕ) (i : ℕ) → length bs ≤ i → fed f (drop i bs) ≡ f
-unfolding fed
-fed_done f bs i h = rw (drop_of_length-le bs h) refl
-
--- no place behind the area is a number's
-pub outside : (a : List ℕ) (n : ℕ) (k : Class) → 772 ≤ n → fed_of a Bad ≡ fed_in a (Inside n) k
-unfolding fed_in entered
-outside a n Space h = rw (le-ltb n 772 h) refl
-outside a n (Digit d) h = rw (le-ltb n 772 h) refl
-outside a n Other h = refl
+fed_next f g h bs i l d e = rw (take_more bs i 0 l, fed_append) (e ∙ ap (λ (k : Fed). fed_by k (get_or bs i 0)) d)
 
 entered_length : (a : List ℕ) (n v : ℕ) → length (entered a n v).area ≡ length a
-unfolding entered
 entered_length a n v = go (ltb n 772) (leb v 65535)
   where
     go : (p q : Bool) → length (cond p (cond q (fed_of (set a n v) (Inside n)) (fed_of a Bad)) (fed_of a Bad)).area ≡ length a
@@ -45,7 +31,6 @@ entered_length a n v = go (ltb n 772) (leb v 65535)
     go false q = refl
 
 one_length : (a : List ℕ) (s : Scan) (k : Class) → length (fed_in a s k).area ≡ length a
-unfolding fed_in
 one_length a (Between n) Space = refl
 one_length a (Between n) (Digit d) = entered_length a n d
 one_length a (Between n) Other = refl

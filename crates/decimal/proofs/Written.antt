@@ -1,38 +1,36 @@
 -- Writing a text in parts is writing it whole, and what is written from the front is the text.
 use mathlib.Core.Path.{◌≡◌, refl, sym, ap, ◌∙◌}
 use mathlib.Core.List.{List, [], ◌∷◌, ◌++◌, append_assoc, append-nil}
-use Prim.Native.Nat.{ℕ, suc, ◌+◌, ◌/◌, ◌%◌, ◌<◌, ◌≤◌, min}
+use Prim.Native.Nat.{ℕ, suc, ◌+◌, ◌<◌, ◌≤◌, min}
 use native.Mathlib.Numerals.{add-one}
 use native.Mathlib.Omega.{arith}
 use borrow.Author.Tests.{lt-ltb, le-ltb}
 use lib.ListN.{length, get_or, take, drop, length-append, length-take, length-drop, drop_of_length-le}
+use Rattle.std.proofs.lemmas.List.{take_more}
+use base.Fml.{GName}
 use lib.Seq.{drop-cons, take_all, take-append-le, take-append_seam, length-take-le, set_at}
+use Rattle.decimal.specs.declared.writer.Page.{Page as Lent}
 use Rattle.decimal.specs.Page.{Page, page_of, Used, page, wrote_byte, wrote}
-use Rattle.decimal.specs.Digits.{decimal_of}
+use Rattle.decimal.specs.Writing.{page_in, Wrote}
 use Rattle.decimal.proofs.Cases.{cases_lt}
-use Rattle.decimal.proofs.Decimal.{decimal_more}
 
 pub wrote_append : (p : Page) (xs ys : List ℕ) → wrote (wrote p xs) ys ≡ wrote p (xs ++ ys)
 unfolding wrote
 wrote_append p [] ys = refl
 wrote_append p (x ∷ xs) ys = wrote_append (wrote_byte p x) xs ys
 
-pub wrote_joined : (p q r : Page) (xs ys : List ℕ) → q ≡ wrote p xs → r ≡ wrote q ys → r ≡ wrote p (xs ++ ys)
-wrote_joined p q r xs ys e f = f ∙ rw e (wrote_append p xs ys)
-
-pub wrote_last : (p : Page) (xs : List ℕ) (b : ℕ) → wrote_byte (wrote p xs) b ≡ wrote p (xs ++ b ∷ [])
+-- nothing is written
+pub wrote_none : (p : Lent) → Wrote p [] p
 unfolding wrote
-wrote_last p [] b = refl
-wrote_last p (x ∷ xs) b = wrote_last (wrote_byte p x) xs b
+wrote_none p = record { buffer = refl; page = refl }
 
--- one byte more, and the last one
-pub wrote_next : (p q : Page) (bs : List ℕ) (i : ℕ) → q ≡ wrote_byte p (get_or bs i 0) → i < length bs → wrote q (drop (i + 1) bs) ≡ wrote p (drop i bs)
-unfolding wrote
-wrote_next p q bs i e h = rw (e, add-one, drop-cons bs i 0)
+-- a text and another one behind it
+pub wrote_both : {p q r : Lent} {xs ys : List ℕ} → Wrote p xs q → Wrote q ys r → Wrote p (xs ++ ys) r
+wrote_both {p} {xs = xs} {ys = ys} h k = record { buffer = k.buffer ∙ h.buffer; page = k.page ∙ rw h.page (wrote_append (page_in p) xs ys) }
 
-pub wrote_done : (p : Page) (bs : List ℕ) (i : ℕ) → length bs ≤ i → wrote p (drop i bs) ≡ p
-unfolding wrote
-wrote_done p bs i h = rw (drop_of_length-le bs h) refl
+-- one byte more of a list
+pub wrote_next : (bs : List ℕ) (i : ℕ) {p q r : Lent} → i < length bs → Wrote p (take i bs) q → Wrote q (get_or bs i 0 ∷ []) r → Wrote p (take (i + 1) bs) r
+wrote_next bs i l h k = rw (take_more bs i 0 l) (wrote_both h k)
 
 -- a text with room for it, and one with none to spare
 pub page_fits : (out xs : List ℕ) → length xs ≤ length out → page out xs ≡ page_of (xs ++ drop (length xs) out) (length xs)
@@ -99,6 +97,12 @@ wrote_page out xs (b ∷ bs) = rw (page_more out xs b) (wrote_page out (xs ++ b 
 pub wrote_front : (out bs : List ℕ) → wrote (page_of out 0) bs ≡ page out bs
 wrote_front out bs = rw (← page_fits out [] (omega arith)) (wrote_page out [] bs)
 
--- a number's digits: those of its tenth, and the last one
-pub wrote_decimal : (p q r : Page) (n : ℕ) → 10 ≤ n → q ≡ wrote p (decimal_of (n / 10)) → r ≡ wrote_byte q (48 + n % 10) → r ≡ wrote p (decimal_of n)
-wrote_decimal p q r n h e f = f ∙ rw e (rw (decimal_more n h) (wrote_last p (decimal_of (n / 10)) (48 + n % 10)))
+-- a page of a buffer, from its start to its end, when the buffer is no longer lent
+pub page_written : {p q : Lent} {out bs after : List ℕ} {n : ℕ} {name : GName} → Wrote p bs q → p.out.ghost_name ≡ name → page_in p ≡ page_of out 0 → n ≡ q.used
+    → (name ≡ q.out.ghost_name → after ≡ q.out.now) → page_of after n ≡ page out bs
+page_written {out = out} {bs = bs} h b e f g = rw (f, g (sym b ∙ sym h.buffer)) (h.page ∙ rw e (wrote_front out bs))
+
+-- and so many of its bytes are used
+pub used_written : {p q : Lent} {out bs after : List ℕ} {n : ℕ} {name : GName} → Wrote p bs q → p.out.ghost_name ≡ name → page_in p ≡ page_of out 0 → n ≡ q.used
+    → (name ≡ q.out.ghost_name → after ≡ q.out.now) → Used n after
+used_written {out = out} {bs = bs} {after = after} {n = n} h b e f g = page_used out bs after n (page_written h b e f g)

@@ -1,12 +1,9 @@
 -- The scan of an input, byte by byte, into an area of 772 numbers.
-use Rattle.std.specs.Prelude.{ℕ, ◌+◌, ◌-◌, ◌*◌, ◌≤◌, List, [], ◌∷◌, get_or, set, take, ltb, leb, eqb, cond}
-use Rattle.std.proofs.Math.Option.{Option, none, some}
+use Rattle.std.specs.Prelude.{ℕ, ◌+◌, ◌-◌, ◌*◌, List, [], ◌∷◌, get_or, set, take, ltb, leb, eqb, cond, Option, Some, None}
 use Rattle.decimal.specs.declared.scanner.Class.{Class}
 use Rattle.decimal.specs.declared.scanner.Class.TheVariants.{Space, Digit, Other}
 use Rattle.decimal.specs.declared.scanner.Scan.{Scan}
 use Rattle.decimal.specs.declared.scanner.Scan.TheVariants.{Between, Inside, Bad}
-use Rattle.decimal.specs.declared.scanner.Found.{Found}
-use Rattle.decimal.specs.declared.scanner.Found.TheVariants.{Numbers, NotACard}
 
 -- the area, and where the scan stands: between numbers with n of them read, inside number n, or past a fault
 pub record Fed : Type 0 where
@@ -17,15 +14,15 @@ abbrev pub fed_of : List ℕ → Scan → Fed
 fed_of a s = record { area = a; scan = s }
 
 -- a blank or a line feed, a digit, or anything else
-unfoldable pub class_of : ℕ → Class
+abbrev pub class_of : ℕ → Class
 class_of b = cond (eqb b 32) Space (cond (eqb b 10) Space (cond (leb 48 b) (cond (leb b 57) (Digit (b - 48)) Other) Other))
 
 -- v put at place n, if both are within their limits
-unfoldable pub entered : List ℕ → ℕ → ℕ → Fed
+abbrev pub entered : List ℕ → ℕ → ℕ → Fed
 entered a n v = cond (ltb n 772) (cond (leb v 65535) (fed_of (set a n v) (Inside n)) (fed_of a Bad)) (fed_of a Bad)
 
 -- one byte, by its class
-unfoldable pub fed_in : List ℕ → Scan → Class → Fed
+abbrev pub fed_in : List ℕ → Scan → Class → Fed
 fed_in a Bad k = fed_of a Bad
 fed_in a (Between n) Space = fed_of a (Between n)
 fed_in a (Between n) (Digit d) = entered a n d
@@ -43,23 +40,18 @@ fed f [] = f
 fed f (b ∷ bs) = fed (fed_by f b) bs
 
 -- what the end of the input makes of a scan: how many numbers were read, or no card
-unfoldable pub found_of : Scan → Found
-found_of (Between n) = cond (leb n 772) (Numbers n) NotACard
-found_of (Inside n) = cond (ltb n 772) (Numbers (n + 1)) NotACard
-found_of Bad = NotACard
+abbrev pub found_of : Scan → Option ℕ
+found_of (Between n) = cond (leb n 772) (Some n) None
+found_of (Inside n) = cond (ltb n 772) (Some (n + 1)) None
+found_of Bad = None
 
-abbrev pub numbers_in : List ℕ → Found → Option (List ℕ)
-numbers_in a (Numbers n) = some (take n a)
-numbers_in a NotACard = none
+abbrev pub numbers_in : List ℕ → Option ℕ → Option (List ℕ)
+numbers_in a (Some n) = Some (take n a)
+numbers_in a None = None
 
 -- the numbers of the card, if it is one
 abbrev pub card_of : Fed → Option (List ℕ)
 card_of f = numbers_in f.area (found_of f.scan)
-
--- so many numbers are in the area
-abbrev pub Within : Found → Type 0
-Within (Numbers n) = n ≤ 772
-Within NotACard = Unit {0}
 
 -- the scan of a whole input, which starts between numbers with none of them read
 abbrev pub scanned : List ℕ → List ℕ → Option (List ℕ)

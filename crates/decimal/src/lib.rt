@@ -4,5 +4,5 @@
 mod scanner;
 mod writer;
 
-pub use scanner::{Found, Scan, feed, finish};
-pub use writer::{number, put, word};
+pub use scanner::{Scan, feed, finish};
+pub use writer::Page;

@@ -1,6 +1,6 @@
 // Scans decimal numbers between blanks and line feeds, in chunks of any size, into an area of 772.
-ghost use Rattle.std.specs.Prelude.{◌≡◌, ◌<◌};
-ghost use Rattle.decimal.specs.Scanning.{fed_of, class_of, entered, fed_in, fed, found_of, Within};
+ghost use Rattle.std.specs.Prelude.{◌≡◌, ◌≤◌, IfSome};
+ghost use Rattle.decimal.specs.Scanning.{fed_of, class_of, entered, fed_in, fed, found_of};
 
 // Between numbers, with so many of them read; inside the number at a place, which stands in the
 // area as far as it was read; or past a fault. An input starts at Between(0).
@@ -9,13 +9,6 @@ pub enum Scan {
     Between(usize),
     Inside(usize),
     Bad,
-}
-
-// How many numbers a whole input has.
-#[derive(Clone, Copy)]
-pub enum Found {
-    Numbers(usize),
-    NotACard,
 }
 
 #[derive(Clone, Copy)]
@@ -29,31 +22,23 @@ enum Class {
 fn class_of(b: u8) -> Class
     ensures { result ≡ class_of b }
 {
-    if b == 32 {
-        return Class::Space;
+    match b {
+        b' ' | b'\n' => Class::Space,
+        b'0'..=b'9' => Class::Digit(b - b'0'),
+        _ => Class::Other,
     }
-    if b == 10 {
-        return Class::Space;
-    }
-    if 48 <= b {
-        if b <= 57 {
-            return Class::Digit(b - 48);
-        }
-    }
-    Class::Other
 }
 
 // Puts the value of a number at its place.
 fn enter(card: &mut [u16; 772], n: usize, v: u32) -> Scan
     ensures { fed_of card.new result ≡ entered card.old n v }
 {
-    if n < 772 {
-        if v <= 65535 {
-            card[n] = v as u16;
-            return Scan::Inside(n);
-        }
+    if n < 772 && v <= 65535 {
+        card[n] = v as u16;
+        Scan::Inside(n)
+    } else {
+        Scan::Bad
     }
-    Scan::Bad
 }
 
 // A byte between numbers.
@@ -62,7 +47,7 @@ fn between(card: &mut [u16; 772], n: usize, k: Class) -> Scan
 {
     match k {
         Class::Space => Scan::Between(n),
-        Class::Digit(d) => enter(card, n, d as u32),
+        Class::Digit(d) => enter(card, n, u32::from(d)),
         Class::Other => Scan::Bad,
     }
 }
@@ -77,17 +62,11 @@ fn inside(card: &mut [u16; 772], n: usize, k: Class) -> Scan
     match k {
         Class::Space => Scan::Between(n + 1),
         Class::Digit(d) => {
-            let old = wide(card[n]);
-            enter(card, n, old * 10 + d as u32)
+            let old = u32::from(card[n]);
+            enter(card, n, old * 10 + u32::from(d))
         }
         Class::Other => Scan::Bad,
     }
-}
-
-fn wide(x: u16) -> u32
-    ensures { (result ≡ x) × (result < 65536) }
-{
-    x as u32
 }
 
 // One byte.
@@ -107,30 +86,20 @@ pub fn feed(card: &mut [u16; 772], start: Scan, chunk: &[u8]) -> Scan
     ensures { fed_of card.new result ≡ fed (fed_of card.old start) chunk.now }
 {
     let mut s = start;
-    let mut i = 0;
-    while i < chunk.len() {
-        s = byte(card, s, chunk[i]);
-        i += 1;
+    for &b in chunk {
+        s = byte(card, s, b);
     }
     s
 }
 
-// What the end of the input makes of a scan.
-pub fn finish(s: Scan) -> Found
+// How many numbers a whole input has, by where its scan ends; none if it is no card.
+pub fn finish(s: Scan) -> Option<usize>
     ensures value { result ≡ found_of s }
-    ensures within { Within result }
+    ensures within { IfSome result (λ n. n ≤ 772) }
 {
     match s {
-        Scan::Between(n) => if n <= 772 {
-            Found::Numbers(n)
-        } else {
-            Found::NotACard
-        },
-        Scan::Inside(n) => if n < 772 {
-            Found::Numbers(n + 1)
-        } else {
-            Found::NotACard
-        },
-        Scan::Bad => Found::NotACard,
+        Scan::Between(n) if n <= 772 => Some(n),
+        Scan::Inside(n) if n < 772 => Some(n + 1),
+        _ => None,
     }
 }

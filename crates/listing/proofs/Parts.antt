@@ -38,7 +38,7 @@ each_part t i (suc n) =
     rw (each_part t i n) (sym (rw add-one at e))
 
 module _ (t : List ℕ) where
-  rows_last : (q n : ℕ) → rows_of t q (suc n) ≡ rows_of t q n ++ row_of (q + n) (part t (row_from t (q + n)) (width t))
+  pub rows_last : (q n : ℕ) → rows_of t q (suc n) ≡ rows_of t q n ++ row_of (q + n) (part t (row_from t (q + n)) (width t))
   unfolding rows_of
   rows_last q zero = rw (add-zero, append-nil) refl
   rows_last q (suc n) =

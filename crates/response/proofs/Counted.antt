@@ -1,62 +1,32 @@
--- How many numbers an answer has is told by the first of them.
-use mathlib.Core.Path.{◌≡◌, refl, sym, ap, ◌∙◌}
-use mathlib.Core.Bool.{Bool, true, false, cond}
+-- The numbers of a refusal are five at most, and the first of the five that the maker gives.
+use mathlib.Core.Path.{◌≡◌, refl}
 use mathlib.Core.List.{List, []}
-use Prim.Native.Nat.{ℕ, ◌≤◌, ◌<◌}
+use Prim.Native.Nat.{ℕ, ◌≤◌}
 use native.Mathlib.Omega.{arith}
-use lib.ListN.{length, get_or, take, get_or-append}
-use lib.Dec.{eqb}
+use lib.ListN.{length, take}
 use lib.Seq.{take_at}
 use Rattle.sets.specs.Lists.{covered}
 use Rattle.card_checks.specs.declared.Refusal.TheVariants.{CardShort, SizesWrong, LengthWrong, LeftWrong, SumWrong, SymbolWrong, Useless}
-use Rattle.generator.specs.declared.Answer.{Answer}
-use Rattle.generator.specs.declared.Answer.TheVariants.{Table, TableShort, WordsShort, HalvesShort, Card, ManyStates, ManyTransitions, Conflict}
+use Rattle.std.specs.Prelude.{Result, Err}
+use Rattle.generator.specs.declared.Refusal.{Refusal}
+use Rattle.generator.specs.declared.Refusal.TheVariants.{TableShort, WordsShort, HalvesShort, Card, ManyStates, ManyTransitions, Conflict}
 use Rattle.generator.specs.Answer.{numbers}
 
-abbrev pub count_of : ℕ → ℕ
-count_of n = cond (eqb n 10) 2 (cond (eqb n 13) 5 1)
+pub few : (r : Refusal) → length (numbers (Err r)) ≤ 5
+few TableShort = omega arith
+few WordsShort = omega arith
+few HalvesShort = omega arith
+few (Card CardShort) = omega arith
+few (Card SizesWrong) = omega arith
+few (Card LengthWrong) = omega arith
+few (Card LeftWrong) = omega arith
+few (Card SumWrong) = omega arith
+few (Card SymbolWrong) = omega arith
+few (Card (Useless x)) = omega arith
+few ManyStates = omega arith
+few ManyTransitions = omega arith
+few (Conflict r) = omega arith
 
-counted : (a : Answer) → count_of (get_or (numbers a) 0 0) ≡ length (numbers a)
-counted Table = refl
-counted TableShort = refl
-counted WordsShort = refl
-counted HalvesShort = refl
-counted (Card CardShort) = refl
-counted (Card SizesWrong) = refl
-counted (Card LengthWrong) = refl
-counted (Card LeftWrong) = refl
-counted (Card SumWrong) = refl
-counted (Card SymbolWrong) = refl
-counted (Card (Useless x)) = refl
-counted ManyStates = refl
-counted ManyTransitions = refl
-counted (Conflict q m v w) = refl
-
-pub by_first : {n k : ℕ} → count_of n ≡ k → (a : Answer) → get_or (numbers a) 0 0 ≡ n → k ≡ length (numbers a)
-by_first e a h = sym e ∙ ap count_of (sym h) ∙ counted a
-
-from_one_to_five : (n : ℕ) → (0 < count_of n) × (count_of n ≤ 5)
-from_one_to_five n = go (eqb n 10) (eqb n 13)
-  where
-    go : (x y : Bool) → (0 < cond x 2 (cond y 5 1)) × (cond x 2 (cond y 5 1) ≤ 5)
-    go true y = (omega arith, omega arith)
-    go false true = (omega arith, omega arith)
-    go false false = (omega arith, omega arith)
-
--- the first k of five numbers, where k is told by the first
-module _ (a : Answer) (n : List ℕ) (k : ℕ) (is : n ≡ covered 5 (numbers a) []) (told : (b : Answer) → get_or (numbers b) 0 0 ≡ get_or n 0 0 → k ≡ length (numbers b)) where
-  first_is : get_or (numbers a) 0 0 ≡ get_or n 0 0
-  unfolding covered
-  first_is =
-      let l : 0 < length (numbers a) = rw (← counted a) (from_one_to_five (get_or (numbers a) 0 0)).0 in
-      rw is (sym (get_or-append (numbers a) _ 0 0 l))
-
-  pub number_count : k ≡ length (numbers a)
-  number_count = told a first_is
-
-  pub few : k ≤ 5
-  few = rw (number_count, ← counted a) (from_one_to_five (get_or (numbers a) 0 0)).1
-
-  pub those : take k n ≡ numbers a
-  unfolding covered
-  those = rw (number_count, is) (take_at (numbers a) _ _ refl)
+pub those : (a : Result (Unit {0}) Refusal) (n : List ℕ) (k : ℕ) → n ≡ covered 5 (numbers a) [] → k ≡ length (numbers a) → take k n ≡ numbers a
+unfolding covered
+those a n k e f = rw (e, f) (take_at (numbers a) _ _ refl)

@@ -14,7 +14,7 @@ use Rattle.lalr.specs.ComputedStates.{facts, closure, advance, goto}
 use Rattle.lalr.specs.Answer.{made}
 use Rattle.lalr.specs.ComputedAnswer.{card_answer, table_of}
 use Rattle.decimal.specs.Form.{Card}
-use Rattle.decimal.specs.Scanning.{class_of, entered, fed_in, fed, found_of}
+use Rattle.decimal.specs.Scanning.{fed}
 use Rattle.listing.proofs.Example.{table_A, text_A, table_A_text}
 use Rattle.response.specs.declared.Form.TheVariants.{Listing, Pages}
 use Rattle.response.specs.Response.{response_text, card_text}
@@ -46,7 +46,7 @@ input_A : List ℕ
 input_A = input_0 ++ input_1 ++ input_2 ++ input_3
 
 input_A_card : Card input_A card_A
-unfolding card_A input_A input_0 input_1 input_2 input_3 class_of entered fed_in fed found_of
+unfolding card_A input_A input_0 input_1 input_2 input_3 fed
 input_A_card = found_card input_A card_A refl
 
 card_A_made : card_answer card_A ≡ made

@@ -6,7 +6,7 @@ use Prim.Native.Nat.{ℕ, zero, suc, ◌+◌, ◌≤◌, ◌<◌}
 use native.Mathlib.Omega.{arith}
 use lib.ListN.{length, get_or}
 use Rattle.grammar.specs.Grammar.{Grammar, Formed}
-use Rattle.grammar.specs.Card.{terminals, nonterminals, productions, form_fault, grammar_of}
+use Rattle.grammar.specs.Card.{terminals, nonterminals, form_fault, grammar_of}
 use Rattle.grammar.proofs.CardLaws.{well_formed, formed, fault_most}
 use Rattle.lr.specs.States.{States}
 use Rattle.lr.specs.Cells.{Action, shifts, reduces, accepts}

@@ -5,18 +5,12 @@ use mathlib.Core.Logic.{◌≢◌}
 use Prim.Native.Nat.{ℕ}
 use borrow.Author.Tests.{eq-eqb, ne_eqb}
 use lib.ListN.{get_or}
-use Rattle.decimal.specs.Page.{Page, page_of, page}
-use Rattle.lalr.specs.Answer.{Generated}
-use Rattle.generator.specs.declared.Answer.{Answer}
-use Rattle.generator.specs.Answer.{numbers, GeneratesAs}
+use Rattle.decimal.specs.Page.{Page, page}
 use Rattle.listing.specs.Listing.{refusal_text}
 use Rattle.response.specs.declared.Form.{Form}
-use Rattle.response.specs.Response.{table_in, response_text, RepliesAs}
+use Rattle.response.specs.Response.{table_in, response_text}
 
 module _ (form : Form) (out t : List ℕ) (p : Page) where
-  pub prints_form : {f : Form} → form ≡ f → p ≡ page out (table_in f t) → p ≡ page out (table_in form t)
-  prints_form h e = rw h e
-
   pub prints_table : (ns : List ℕ) → get_or ns 0 0 ≡ 0 → p ≡ page out (table_in form t) → p ≡ page out (response_text form ns t)
   unfolding response_text
   prints_table ns h e = rw (eq-eqb (get_or ns 0 0) 0 h) e
@@ -24,9 +18,3 @@ module _ (form : Form) (out t : List ℕ) (p : Page) where
   pub prints_refusal : (ns : List ℕ) → get_or ns 0 0 ≢ 0 → p ≡ page out (refusal_text ns) → p ≡ page out (response_text form ns t)
   unfolding response_text
   prints_refusal ns h e = rw (ne_eqb (get_or ns 0 0) 0 h) e
-
--- an answer of the maker, and its text
-pub replies : (form : Form) (g : Generated) (a : Answer) (t z w before after : List ℕ) (n : ℕ) → GeneratesAs g a t z w
-    → page_of after n ≡ page before (response_text form (numbers a) t) → RepliesAs form g before after n t z w
-replies form g a t z w before after n m e =
-    record { text = rw (← m.answer, ← m.table) e; table = m.table; words = m.words; halves = m.halves }

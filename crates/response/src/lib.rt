@@ -1,18 +1,17 @@
 // What is printed of a card: its table, in one of two forms, or the line of its refusal.
 #![tactic(auto)]
 
-ghost use Rattle.std.specs.Prelude.{◌≡◌, List, ℕ, ◌≤◌, length, get_or, take};
+ghost use Rattle.std.specs.Prelude.{◌≡◌, List, ℕ, ◌≤◌, length, take};
 ghost use Rattle.card_input.specs.Reading.{Came};
 ghost use Rattle.decimal.specs.Page.{page_of, page, Used};
 ghost use Rattle.generator.specs.Answer.{numbers};
-ghost use Rattle.generator.specs.declared.Answer as declared;
 ghost use Rattle.lalr.specs.ComputedGenerator.{generated};
 ghost use Rattle.listing.specs.Listing.{refusal_text};
 ghost use Rattle.response.specs.Printed.{Answers};
 ghost use Rattle.response.specs.Response.{table_in, room_of, response_text, card_text, RepliesAs};
 
-use card_input::Input;
-use generator::Answer;
+use card_input::{Input, ReadFailed};
+use generator::Refusal;
 
 // How a table is printed: line by line, or on pages.
 #[derive(Clone, Copy)]
@@ -21,24 +20,24 @@ pub enum Form {
     Pages,
 }
 
-// How many numbers an answer has, by the first of them: 10 has one value, 13 has four.
-fn count(first: u16) -> usize
-    ensures { (a : declared.Answer) → get_or (numbers a) 0 0 ≡ first → result ≡ length (numbers a) }
+// How many numbers a refusal has: its own, and behind it one where a nonterminal is useless, four where actions meet.
+fn count(refused: Refusal) -> usize
+    ensures { result ≡ length (numbers (Err refused)) }
 {
-    if first == 10 {
-        return 2;
+    match refused {
+        Refusal::Card(card_checks::Refusal::Useless(_)) => 2,
+        Refusal::Conflict(_) => 5,
+        _ => 1,
     }
-    if first == 13 { 5 } else { 1 }
 }
 
 // The line of a refusal, from the front of the buffer.
-fn refusal(out: &mut [u8], answer: Answer) -> usize
-    ensures result_after { page_of out.new result ≡ page out.old (refusal_text (numbers answer)) }
+fn refusal(out: &mut [u8], refused: Refusal) -> usize
+    ensures result_after { page_of out.new result ≡ page out.old (refusal_text (numbers (Err refused))) }
     ensures used { Used result out.new }
 {
-    let n = generator::numbers(answer);
-    let k = count(n[0]);
-    listing::refusal(out, &n[..k])
+    let n = generator::numbers(Err(refused));
+    listing::refusal(out, &n[..count(refused)])
 }
 
 // A table in a form, from the front of the buffer.
@@ -53,13 +52,13 @@ fn table(out: &mut [u8], form: Form, t: &[u16]) -> usize
 }
 
 // The text of an answer, from the front of the buffer: the table, or the line of the refusal.
-fn respond(out: &mut [u8], form: Form, answer: Answer, t: &[u16]) -> usize
+fn respond(out: &mut [u8], form: Form, answer: Result<(), Refusal>, t: &[u16]) -> usize
     ensures result_after { page_of out.new result ≡ page out.old (response_text form (numbers answer) t.now) }
     ensures used { Used result out.new }
 {
     match answer {
-        Answer::Table => table(out, form, t),
-        _ => refusal(out, answer),
+        Ok(()) => table(out, form, t),
+        Err(refused) => refusal(out, refused),
     }
 }
 
@@ -96,10 +95,9 @@ pub fn answer(card: &[u16; card_input::CARD], input: Input, form: Form, out: &mu
     ensures by_index { (bs : List ℕ) → Came bs card.now input → room_of form ≤ length out.old → Answers form bs input (take result out.new) }
     ensures used { Used result out.new }
 {
-    let numbers: &[u16] = card;
     match input {
-        Input::Card(n) => text(&numbers[..n], form, out),
-        Input::NotACard => listing::not_a_card(out),
-        Input::Failed => 0,
+        Ok(Some(n)) => text(&card[..n], form, out),
+        Ok(None) => listing::not_a_card(out),
+        Err(ReadFailed) => 0,
     }
 }

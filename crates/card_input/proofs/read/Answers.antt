@@ -1,15 +1,16 @@
 -- The input was scanned whole from its start, and is all that the reader had.
-use Rattle.std.proofs.Common.{ℕ}
-use Rattle.std.proofs.lemmas.List.{length-replicate}
-use Rattle.card_input.proofs.Parts.{known}
+use Rattle.std.proofs.Common.{◌≡◌, length, arith}
+use Rattle.card_input.proofs.Parts.{answered, known}
 use Rattle.card_input.proofs.read.Goals as goal
 
-pub returns-in-Scanned-clause-came : goal.returns-in-Scanned-clause-came
-returns-in-Scanned-clause-came g c =
-    let all = c.in-Scanned.ensures in
-    (all.0, c.ended.ensures _ _ all.0 (length-replicate {A = ℕ} 772 0) all.1)
+pub returns-clause-came : goal.returns-clause-came
+returns-clause-came g c =
+    let all = c.in_ok-s.ensures in
+    let long : length c.args.card.now ≡ 772 = omega arith in
+    (all.0, answered _ _ _ all.0 long all.1 _ c.finish.ensures.value c.finish.ensures.within)
 
-pub returns-in-Scanned-clause-known : goal.returns-in-Scanned-clause-known
-returns-in-Scanned-clause-known g c =
-    let all = c.in-Scanned.ensures in
-    known _ all.0 _ all.2 (c.ended.ensures _ _ all.0 (length-replicate {A = ℕ} 772 0) all.1)
+pub returns-clause-known : goal.returns-clause-known
+returns-clause-known g c =
+    let all = c.in_ok-s.ensures in
+    let long : length c.args.card.now ≡ 772 = omega arith in
+    known _ all.0 _ all.2 (answered _ _ _ all.0 long all.1 _ c.finish.ensures.value c.finish.ensures.within)

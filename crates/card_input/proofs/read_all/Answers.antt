@@ -7,7 +7,7 @@ pub loop-init : goal.loop-init
 loop-init g c = none _ _
 
 pub loop-preserved : goal.loop-preserved
-loop-preserved g c = joined _ _ _ _ _ _ c.loop.invariant c.in-Bytes.ensures
+loop-preserved g c = joined _ _ _ _ _ _ c.loop.invariant (rw c.in-Some.is at c.in_ok-t.ensures)
 
-pub returns-in-End : goal.returns-in-End
-returns-in-End g c = ended _ _ _ _ _ _ _ c.loop.invariant c.in-End.ensures.0 c.in-End.ensures.1 c.in-End.ensures.2
+pub returns-in-None : goal.returns-in-None
+returns-in-None g c = let end = rw c.in-None.is at c.in_ok-t.ensures in ended _ _ _ _ _ _ _ c.loop.invariant end.0 end.1 end.2

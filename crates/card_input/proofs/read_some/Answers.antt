@@ -2,5 +2,5 @@
 use Rattle.card_input.proofs.Parts.{kept}
 use Rattle.card_input.proofs.read_some.Goals as goal
 
-pub returns-then-eq : goal.returns-then-eq
-returns-then-eq g c = kept _ _ _ c.in-Err.ensures.bytes
+pub returns-in-Err : goal.returns-in-Err
+returns-in-Err g c = kept _ _ _ c.in-Err.ensures.bytes
