@@ -68,12 +68,14 @@ pub fn first_closed(input: &[u8], closed: u64) -> usize
     search(input, closed)
 }
 
-// The first n places of the stack, copied.
+// The first n places of the stack, copied. A loop and not `copy_from_slice`, for which the archive would need `memmove`.
 pub fn copy(stack: &[u16], second: &mut [u16], n: usize)
     requires { (n ≤ length stack.now) × (n ≤ length second.old) }
     ensures { take n second.new ≡ take n stack.now }
 {
-    second[..n].copy_from_slice(&stack[..n]);
+    for i in 0..n {
+        second[i] = stack[i];
+    }
 }
 
 // A loop and not `fill`, which writes the last place apart: with it a call by a small table took 10 % more time.

@@ -1,5 +1,0 @@
-use Rattle.nonterminals.specs.Gathering.{Lefts}
-use Rattle.nonterminals.proofs.lefts.Given as goal
-
-abbrev pub invariant-loop-r : goal.invariant-loop-r
-invariant-loop-r l = Lefts l.c l.r l.v
