@@ -104,7 +104,7 @@ fn read_all<R: Read, E: Write>(
     Err(ReadFailed)
 }
 
-// Reads the input to its end. The numbers of a card then stand at the front of the area.
+// Reads the input to its end. The numbers of a card then stand at the front of the area, and zeros behind them.
 pub fn read<R: Read, E: Write>(
     input: &mut R,
     errors: &mut E,
@@ -114,6 +114,7 @@ pub fn read<R: Read, E: Write>(
     ensures came { (bs : List ℕ) × Came bs card.new result }
     ensures known { IfSome (R.remaining input.old) (λ bs. Came bs card.new result) }
 {
+    *card = [0; CARD];
     let s = read_all(input, errors, name, card)?;
     Ok(decimal::finish(s))
 }
