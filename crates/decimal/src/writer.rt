@@ -50,9 +50,11 @@ impl<'a> Page<'a> {
     pub fn number(&mut self, x: usize)
         ensures { Wrote self.old (decimal_of x) self.new }
     {
-        if x >= 10 {
-            self.number(x / 10);
+        if x < 10 {
+            self.put(b'0' + x as u8);
+            return;
         }
+        self.number(x / 10);
         self.put(b'0' + (x % 10) as u8);
     }
 }
