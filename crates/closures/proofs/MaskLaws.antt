@@ -3,19 +3,22 @@ use mathlib.Core.Bool.{Bool, true, false, ◌&&◌, ◌||◌}
 use mathlib.Core.List.{List}
 use mathlib.Core.Logic.{⊎_elim}
 use mathlib.Core.Path.{◌≡◌, refl, sym, ap, ◌∙◌}
-use Prim.Native.Nat.{ℕ, ◌+◌, ◌≤◌, ◌<◌}
+use Prim.Native.Nat.{ℕ, ◌+◌, ◌*◌, ◌/◌, ◌%◌, ◌^◌, ◌≤◌, ◌<◌}
 use native.Mathlib.Nat.{not-suc-le-zero}
 use native.Mathlib.Omega.{arith}
 use lib.Dec.{eqb, ltb}
-use lib.ListN.{length}
+use lib.Bits.{bit_or}
+use lib.ListN.{length, get_or, set, drop, length-drop, length-set}
+use lib.Seq.{length-take-le, get_or-take, get_or-drop}
 use borrow.Author.Tests.{eqb-true, lt-ltb, le-ltb, eq-eqb, ne_eqb}
-use Rattle.closures.proofs.AreaLaws.{kept_same, kept_then}
+use Rattle.closures.proofs.AreaLaws.{kept_same, kept_then, word_added}
 use Rattle.closures.specs.Areas.{closures_at, masks_at, slots_end, slot, Kept, Closures, Masks, Masked, Added}
 use Rattle.closures.specs.Numbers.{after_of}
 use Rattle.grammar.specs.Card.{terminals, nonterminals}
-use Rattle.items.specs.Item.{item_limit, item, Put, Empty}
+use Rattle.items.specs.Item.{set_size, item_limit, item, Put, Empty}
 use Rattle.sets.proofs.HasLaws.{lt_or_ge, ltb_more}
 use Rattle.sets.proofs.TestLaws.{and_true, and_right}
+use Rattle.sets.proofs.WordLaws.{put_of}
 use Rattle.areas.specs.Areas.{words_size}
 
 -- the slots of the symbols below x are empty
@@ -86,6 +89,21 @@ masked_more c z₀ z y m u i x p room w h ex hx em pu ad l = record {
     other v k n =
         not_here (ltb k i) (eqb i k) (eqb (after_of c k) v) (λ e. ne_eqb (after_of c k) v (λ f. n (ex ∙ ap (after_of c) (eqb-true i k e) ∙ f)))
         ∙ ap (λ (t : Bool). t && eqb (after_of c k) v) (sym (ltb_more k i))
+
+-- as the machine sets the item's bit
+pub marked_more : (c z₀ z : List ℕ) (i x : ℕ) → Masked c z₀ z i → words_size ≤ length z → terminals c + nonterminals c ≤ 124 → i < item_limit → x ≡ after_of c i → x < terminals c + nonterminals c
+    → Masked c z₀ (set z ((masks_at + x) * set_size + i / 64) (bit_or (get_or z ((masks_at + x) * set_size + i / 64) 0) ((1 * 2 ^ (i % 64)) % 2 ^ 64))) (i + 1)
+marked_more c z₀ z i x p room w h ex hx =
+    let m = slot z (masks_at + x) in
+    let at = (masks_at + x) * set_size in
+    let bits = (1 * 2 ^ (i % 64)) % 2 ^ 64 in
+    let k : i / 64 < set_size = omega arith in
+    let fit : at + set_size ≤ length z = omega arith in
+    let lm : length m ≡ set_size = length-take-le set_size (drop at z) (omega (arith, length-drop at z)) in
+    let word : get_or m (i / 64) 0 ≡ get_or z (at + i / 64) 0 = get_or-take set_size (drop at z) (i / 64) 0 k ∙ get_or-drop at z (i / 64) 0 in
+    let pu : Put m i (set m (i / 64) (bit_or (get_or z (at + i / 64) 0) bits)) =
+    rw word at (put_of m i (omega (arith, lm))) in
+    masked_more c z₀ z _ m _ i x p room w h ex hx refl pu (word_added z (masks_at + x) (i / 64) _ k fit) (length-set z (at + i / 64) _)
 
 -- the closures stay while the masks are made
 pub prepared_closures : (c z₀ z₁ z₂ : List ℕ) → nonterminals c ≤ 60 → Closures c z₀ (nonterminals c) → Masked c z₀ z₁ 0 → Masked c z₁ z₂ item_limit → Closures c z₂ (nonterminals c)

@@ -159,8 +159,7 @@ fn fill_masks(c: &[u16], w: &[u32], z: &mut [u64])
 {
     for i in 0..items::LIMIT {
         let at = (MASKS + w[i] as usize) * items::SIZE;
-        let m = items::load(z, at);
-        items::store(z, at, items::with(m, i));
+        z[at + i / 64] |= 1 << (i % 64);
     }
 }
 
@@ -204,8 +203,8 @@ pub fn afters(c: &[u16], w: &[u32], s: [u64; 11]) -> [u64; 11]
     let mut a = items::empty();
     let mut from = 0;
     while let Some(i) = words::next(s, from) {
-        let u = items::with(a, w[i] as usize);
-        a = u;
+        let x = w[i] as usize;
+        a[x / 64] |= 1 << (x % 64);
         from = i + 1;
     }
     a

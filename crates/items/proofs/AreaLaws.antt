@@ -1,19 +1,16 @@
 -- A part of an area read after a part was stored (`lib.Seq`'s `paste`), and a set compared with a part.
-use mathlib.Core.Bool.{Bool, false, false≢true}
-use mathlib.Core.List.{List, ◌++◌}
+use mathlib.Core.Bool.{true, false, false≢true}
+use mathlib.Core.List.{List, [], ◌∷◌, ◌++◌}
 use mathlib.Core.Logic.{⊎_elim}
-use mathlib.Core.Path.{◌≡◌, sym, ap, ◌∙◌}
+use mathlib.Core.Path.{◌≡◌, refl, sym, ap, ◌∙◌}
 use Prim.Native.Nat.{ℕ, ◌+◌, ◌-◌, ◌^◌, ◌≤◌, ◌<◌}
 use native.Mathlib.Omega.{arith}
-use lib.ListN.{length, get_or, take, drop, length-drop, get_or-eq_default, get_or-append}
-use lib.Dec.{eqb}
-use lib.Pointwise.{pointwise}
+use native.Mathlib.Numerals.{add-one}
+use lib.ListN.{length, get_or, set, take, drop, length-drop, get_or-eq_default, get_or-append}
 use lib.Pow.{pow_pos}
-use lib.Seq.{length-take-le, get_or-append-add, get_or-take, get_or-drop, ext_get_or, paste, length_paste_head, length-paste}
-use Rattle.std.proofs.lemmas.Bool.Decides.{Decides-eqb}
-use Rattle.std.proofs.lemmas.Slice.Eq.{slice_eq-Decides}
+use lib.Seq.{length-take-le, take-suc, take-suc-set, get_or-append-add, get_or-take, get_or-drop, ext_get_or, paste, length_paste_head, length-paste}
 use Rattle.items.proofs.ItemLaws.{Words, same_of}
-use Rattle.items.specs.Item.{set_size, Same}
+use Rattle.items.specs.Item.{set_size, item, Same}
 use Rattle.sets.proofs.HasLaws.{lt_or_ge}
 
 module _ (d : List ℕ) (at : ℕ) (s : List ℕ) (n : ℕ) (hd : at + n ≤ length d) (hs : n ≤ length s) where
@@ -50,6 +47,12 @@ part_eq a n e d he hd h =
     let q : k < n = omega arith in
     get_or-take n (drop a e) k 0 q ∙ get_or-drop a e k 0 ∙ h k q ∙ sym (get_or-take n (drop a d) k 0 q ∙ get_or-drop a d k 0))
 
+-- one word more of a part is read
+pub part_more : (t d : List ℕ) (at i : ℕ) → i < length t → at + i < length d → take i t ≡ take i (drop at d) → take (i + 1) (set t i (get_or d (at + i) 0)) ≡ take (i + 1) (drop at d)
+part_more t d at i ht hd e =
+    rw (add-one, sym (get_or-drop at d i 0))
+    (take-suc-set t i (get_or (drop at d) i 0) ht ∙ ap (λ (l : List ℕ). l ++ get_or (drop at d) i 0 ∷ []) e ∙ sym (take-suc (drop at d) i 0 (omega (arith, length-drop at d))))
+
 -- the part that was stored
 pub part_new : (d : List ℕ) (at : ℕ) (s : List ℕ) → at + length s ≤ length d → take (length s) (drop at (paste d at s (length s))) ≡ s
 part_new d at s hd =
@@ -74,13 +77,15 @@ module _ (d : List ℕ) (at : ℕ) (s : List ℕ) (room : at + set_size ≤ leng
       ⊎_elim (λ (h : k < set_size). rw (part_at d at set_size k h) (f k))
       (λ (h : set_size ≤ k). rw (get_or-eq_default (take set_size (drop at d)) 0 {n = k} (rw (part_length d at set_size room) h)) (pow_pos 64)) (lt_or_ge k set_size)
 
-  -- the answer of `==` at the part and s
-  pub is_part : ((k : ℕ) → get_or d k 0 < 2 ^ 64) → Words s → (r : Bool) → r ≡ pointwise eqb (take set_size (drop at d)) s → Same (take set_size (drop at d)) s r
-  is_part f g r e =
-      let q = slice_eq-Decides (λ a b. Decides-eqb a b) (take set_size (drop at d)) s r e in
-      same_of (take set_size (drop at d)) s r (part_length d at set_size room) ls (part_words (λ k. f (at + k))) g (record { yes = q.0; so = q.1 })
-
   pub not_same : ((k : ℕ) → get_or d (at + k) 0 < 2 ^ 64) → Words s → (k : ℕ) → k < set_size → (get_or d (at + k) 0 ≡ get_or s k 0 → ⊥) → Same (take set_size (drop at d)) s false
   not_same f g k h n =
       same_of (take set_size (drop at d)) s false (part_length d at set_size room) ls (part_words f) g
       (record { yes = λ e. absurd (false≢true e); so = λ e. absurd (n (sym (part_at d at set_size k h) ∙ ap (λ (l : List ℕ). get_or l k 0) e)) })
+
+  pub is_same : ((k : ℕ) → k < set_size → get_or d (at + k) 0 ≡ get_or s k 0) → Same (take set_size (drop at d)) s true
+  is_same h =
+      let e : take set_size (drop at d) ≡ s = ext_get_or 0 _ _ (part_length d at set_size room ∙ sym ls) (λ k l. part_at d at set_size k (rw (part_length d at set_size room) at l) ∙ h k (rw (part_length d at set_size room) at l)) in
+      record {
+        words = record { yes = λ t. e; so = λ t. refl };
+        items = record { yes = λ t k l. ap (λ (l : List ℕ). item l k) e; so = λ t. refl };
+      }

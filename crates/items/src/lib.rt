@@ -34,13 +34,16 @@ pub fn join(a: [u64; 11], b: [u64; 11]) -> [u64; 11]
     words::join(a, b)
 }
 
-// The set that stands at a place.
+// The set that stands at a place. Here and in `store` and `is_at` a loop: with `copy_from_slice` and `==` the words go
+// through memory once more, and the maker takes up to a third more time.
 pub fn load(d: &[u64], at: usize) -> [u64; 11]
     requires { at + set_size ≤ length d.now }
     ensures { result ≡ take set_size (drop at d.now) }
 {
     let mut t = [0u64; 11];
-    t.copy_from_slice(&d[at..at + SIZE]);
+    for i in 0..SIZE {
+        t[i] = d[at + i];
+    }
     t
 }
 
@@ -49,7 +52,10 @@ pub fn store(d: &mut [u64], at: usize, s: [u64; 11])
     requires { at + set_size ≤ length d.old }
     ensures { d.new ≡ paste d.old at s set_size }
 {
-    d[at..at + SIZE].copy_from_slice(&s);
+    let part = &mut d[at..at + SIZE];
+    for i in 0..SIZE {
+        part[i] = s[i];
+    }
 }
 
 // Whether s is the set that stands at a place.
@@ -57,7 +63,12 @@ pub fn is_at(s: [u64; 11], d: &[u64], at: usize) -> bool
     requires { at + set_size ≤ length d.now }
     ensures { Same (take set_size (drop at d.now)) s result }
 {
-    d[at..at + SIZE] == s[..]
+    for i in 0..SIZE {
+        if d[at + i] != s[i] {
+            return false;
+        }
+    }
+    true
 }
 
 // The numbers after those that are in s and in m.

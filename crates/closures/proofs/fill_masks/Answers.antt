@@ -1,20 +1,18 @@
-use Rattle.std.proofs.Common.{rules, arith, ◌+◌, ◌<◌, get_or}
+use Rattle.std.proofs.Common.{arith, ◌+◌, ◌<◌, ◌∙◌, sym, get_or}
 use Rattle.grammar.proofs.CardLaws.{well_formed}
 use Rattle.grammar.specs.Card.{terminals, nonterminals}
-use Rattle.closures.specs.Areas.{masks_at}
 use Rattle.closures.proofs.NumberLaws.{after_most}
-use Rattle.closures.proofs.AreaLaws.{added}
-use Rattle.closures.proofs.MaskLaws.{masked_more}
+use Rattle.closures.proofs.MaskLaws.{marked_more}
 use Rattle.closures.proofs.fill_masks.Goals as goal
 
-pub load-m-requires : goal.load-m-requires
-load-m-requires c =
+pub bounds-z-at : goal.bounds-z-at
+bounds-z-at c =
     let wf = well_formed c.args.c.now c.requires.0 in
     let l : get_or c.args.w.now c.loop-i.i 0 < terminals c.args.c.now + nonterminals c.args.c.now = rw (c.requires.2.filled c.loop-i.i c.loop-i-test.true) (after_most c.args.c.now wf c.loop-i.i) in
     omega (arith, wf.limits.terminals_to, wf.limits.nonterminals_to)
 
-pub store-requires : goal.store-requires
-store-requires c =
+pub bounds-z-at-in-loop-i : goal.bounds-z-at-in-loop-i
+bounds-z-at-in-loop-i c =
     let wf = well_formed c.args.c.now c.requires.0 in
     let l : get_or c.args.w.now c.loop-i.i 0 < terminals c.args.c.now + nonterminals c.args.c.now = rw (c.requires.2.filled c.loop-i.i c.loop-i-test.true) (after_most c.args.c.now wf c.loop-i.i) in
     omega (arith, wf.limits.terminals_to, wf.limits.nonterminals_to)
@@ -22,8 +20,6 @@ store-requires c =
 pub loop-i-preserved : goal.loop-i-preserved
 loop-i-preserved c =
     let wf = well_formed c.args.c.now c.requires.0 in
-    let l : get_or c.args.w.now c.loop-i.i 0 < terminals c.args.c.now + nonterminals c.args.c.now = rw (c.requires.2.filled c.loop-i.i c.loop-i-test.true) (after_most c.args.c.now wf c.loop-i.i) in (
-      masked_more _ _ _ _ _ _ _ _ c.loop-i.invariant.0 c.loop-i.invariant.1 (omega (arith, wf.limits.terminals_to, wf.limits.nonterminals_to)) c.loop-i-test.true (c.requires.2.filled _ c.loop-i-test.true) l c.load-m.ensures c.with.ensures
-          (rw c.store.ensures (added _ (masks_at + get_or c.args.w.now c.loop-i.i 0) _ (search rules) (omega (arith, wf.limits.terminals_to, wf.limits.nonterminals_to)))) c.store.auto.d,
-      omega (arith, c.store.auto.d),
-    )
+    let l : get_or c.args.w.now c.loop-i.i 0 < terminals c.args.c.now + nonterminals c.args.c.now = rw (c.requires.2.filled c.loop-i.i c.loop-i-test.true) (after_most c.args.c.now wf c.loop-i.i) in
+    let m = marked_more _ _ _ _ _ c.loop-i.invariant.0 c.loop-i.invariant.1 (omega (arith, wf.limits.terminals_to, wf.limits.nonterminals_to)) c.loop-i-test.true (c.requires.2.filled _ c.loop-i-test.true) l in
+    (m, rw (c.loop-i.invariant.0.wide ∙ sym m.wide) at c.loop-i.invariant.1)

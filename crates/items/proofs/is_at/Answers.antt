@@ -1,11 +1,14 @@
-use Rattle.std.proofs.Common.{rules, ◌≡◌, ◌+◌, ◌-◌, length, arith}
+use Rattle.std.proofs.Common.{rules, ◌≡◌, length, arith}
 use Rattle.items.specs.Item.{set_size}
-use Rattle.items.proofs.AreaLaws.{is_part}
+use Rattle.items.proofs.AreaLaws.{not_same, is_same}
 use Rattle.items.proofs.is_at.Goals as goal
+
+pub returns-then-d-at : goal.returns-then-d-at
+returns-then-d-at c =
+    let n : length c.args.s ≡ set_size = search rules in
+    not_same c.args.d.now c.args.at c.args.s c.requires n (λ k. search rules) (λ k. search rules) c.loop-i.i c.loop-i-test.true c.if-d-at.true
 
 pub returns : goal.returns
 returns c =
-    let p = c.args in
-    let n : length p.s ≡ set_size = search rules in
-    let z : p.at + set_size - p.at ≡ set_size = omega arith in
-    is_part p.d.now p.at p.s c.requires n (λ k. search rules) (λ k. search rules) _ (rw z at c.eq.ensures)
+    let n : length c.args.s ≡ set_size = search rules in
+    is_same c.args.d.now c.args.at c.args.s c.requires n (λ k l. c.loop-i.invariant k (omega (arith, c.loop-i-test.false)))
