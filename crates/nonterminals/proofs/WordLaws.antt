@@ -6,7 +6,7 @@ use mathlib.Core.Logic.{⊎_elim}
 use Prim.Native.Nat.{ℕ, ◌+◌, ◌-◌, ◌^◌, ◌≤◌, ◌<◌}
 use lib.Bits.{bit_or, or_add_and, and_le_r}
 use native.Mathlib.Omega.{arith}
-use lib.ListN.{set, length-set, replicate, length-replicate}
+use lib.ListN.{length, set, length-set}
 use lib.Seq.{get_or-set_same, get_or-set_other}
 use borrow.Author.Tests.{lt-ltb, le-ltb}
 use Rattle.sets.specs.Bit.{bit, Within}
@@ -66,8 +66,8 @@ ends_below c h r k = let w = well_formed c h in omega (arith, start_mono c (prod
 
 -- ---- the words of the productions
 
-pub words_start : (f : ℕ → ℕ) → Words f 0 (replicate 128 0)
-words_start f = record { long = length-replicate {A = ℕ} 128 0; words = λ r h. absurd (omega arith) }
+pub words_start : (f : ℕ → ℕ) (v : List ℕ) → length v ≡ 128 → Words f 0 v
+words_start f v l = record { long = l; words = λ r h. absurd (omega arith) }
 
 pub words_more : (f : ℕ → ℕ) (v : List ℕ) (n : ℕ) → Words f n v → n < 128 → (i x : ℕ) → i ≡ n → x ≡ f n → Words f (n + 1) (set v i x)
 words_more f v n R h i x ei ex =

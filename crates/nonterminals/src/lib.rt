@@ -40,29 +40,25 @@ fn right(c: &[u16], r: u16, s: u32) -> u64
 }
 
 // The left side of each production as a set.
-fn lefts(c: &[u16]) -> [u64; 128]
+fn put_lefts(c: &[u16], v: &mut [u64; 128])
     requires { form_fault c.now ≡ 0 }
-    ensures { Lefts c.now (productions c.now) result }
+    ensures { Lefts c.now (productions c.now) v.new }
 {
-    let mut v = [0u64; 128];
     for r in 0..card::productions(c) {
         v[usize::from(r)] = left(c, r);
     }
-    v
 }
 
 // The right side of each production as a set.
-fn rights(c: &[u16]) -> [u64; 128]
+fn put_rights(c: &[u16], v: &mut [u64; 128])
     requires { form_fault c.now ≡ 0 }
-    ensures { Rights c.now (productions c.now) result }
+    ensures { Rights c.now (productions c.now) v.new }
 {
-    let mut v = [0u64; 128];
     let mut s: u32 = 0;
     for r in 0..card::productions(c) {
         v[usize::from(r)] = right(c, r, s);
         s += u32::from(card::length(c, r));
     }
-    v
 }
 
 // One production after the other adds to w: where w has what it needs, what it gives.
@@ -117,8 +113,10 @@ pub fn useless(c: &[u16]) -> Option<u16>
     requires { form_fault c.now ≡ 0 }
     ensures { FoundUseless (grammar_of c.now) result }
 {
-    let lefts = lefts(c);
-    let rights = rights(c);
+    let mut lefts = [0u64; 128];
+    let mut rights = [0u64; 128];
+    put_lefts(c, &mut lefts);
+    put_rights(c, &mut rights);
     let useful = productive(c, &lefts, &rights) & reachable(c, &lefts, &rights);
     let j = sets::lowest(!useful) as u16;
     if j < card::nonterminals(c) {
@@ -240,7 +238,8 @@ pub fn shortest(c: &[u16]) -> [u16; 60]
     requires { form_fault c.now ≡ 0 }
     ensures { ShortestLengths (grammar_of c.now) 60 (λ j. get_or result j 0) }
 {
-    let v = rights(c);
+    let mut v = [0u64; 128];
+    put_rights(c, &mut v);
     let mut e = [65535u16; 60];
     let mut w = FIRST_ROUND;
     loop {
