@@ -1,10 +1,11 @@
 -- Zeros behind what stands in front, at any width of number; rows moved up; the header; and a table area as one list.
-use Prim.Native.Nat.{ℕ, ◌+◌, ◌-◌, ◌≤◌, ◌<◌}
+use Prim.Native.Nat.{ℕ, suc, ◌+◌, ◌-◌, ◌≤◌, ◌<◌}
 use mathlib.Core.Path.{◌≡◌, refl, sym, ap, ◌∙◌}
-use mathlib.Core.List.{List, [], ◌++◌}
+use mathlib.Core.List.{List, [], ◌∷◌, ◌++◌, append_assoc}
 use native.Mathlib.Omega.{arith}
-use lib.ListN.{length, get_or, set, take, drop, replicate, length-drop, length-set}
-use lib.Seq.{length-take-le, get_or-take, get_or-drop, get_or-set_same, get_or-set_other, ext_get_or}
+use native.Mathlib.Numerals.{add-one}
+use lib.ListN.{length, get_or, set, take, drop, replicate, length-append, length-drop, length-replicate, length-set, replicate-append-replicate}
+use lib.Seq.{length-take-le, drop-cons, set_at, get_or-take, get_or-drop, get_or-set_same, get_or-set_other, ext_get_or}
 use Rattle.grammar.specs.Card as card
 use Rattle.tables.specs.Layout.{states, terminals, nonterminals, productions, width, left_at, length_at, header_size, entered_at, row_at, left_of, length_of, entered_of, cell_of, size_of, build}
 use Rattle.areas.specs.Areas.{table_size, row_of}
@@ -28,6 +29,21 @@ covered_filled n t u h e = let z : n - 0 ≡ n = omega arith in rw (e, length-ta
 pub covered_behind : (a k : ℕ) (t u : List ℕ) → a ≤ k → k ≤ length t → u ≡ replicate (length (mid_of a (k - a) t)) 0 → put_mid a (k - a) t u ≡ covered k (take a t) t
 unfolding covered
 covered_behind a k t u h room e = grind (arith, common_steps)
+
+-- one zero more
+pub covered_more : (i : ℕ) (l t : List ℕ) → length l ≤ i → i < length t → set (covered i l t) i 0 ≡ covered (i + 1) l t
+unfolding covered
+covered_more i l t h k =
+    let j = i - length l in
+    let z : List ℕ = replicate j 0 in
+    let e : i + 1 - length l ≡ i - length l + 1 = omega arith in
+    let len : length (l ++ replicate {A = ℕ} (i - length l) 0) ≡ i =
+    omega (arith, length-append l (replicate {A = ℕ} (i - length l) 0), length-replicate {A = ℕ} (i - length l) 0)
+    in
+    ap (λ (x : List ℕ). set x i 0) (sym (append_assoc l z (drop i t)) ∙ ap (λ (x : List ℕ). (l ++ z) ++ x) (drop-cons t i 0 k))
+    ∙ set_at (l ++ z) (get_or t i 0) (drop (suc i) t) 0 i len
+    ∙ append_assoc l z (0 ∷ drop (suc i) t)
+    ∙ ap (λ (x : List ℕ). l ++ x) (sym (append_assoc z (0 ∷ []) (drop (suc i) t)) ∙ rw (e, add-one i, ← replicate-append-replicate {A = ℕ} j 1 0) refl)
 
 -- the places from k on are the same
 pub same_behind : (k : ℕ) (t t' : List ℕ) → length t' ≡ length t → ((i : ℕ) → k ≤ i → get_or t' i 0 ≡ get_or t i 0) → drop k t' ≡ drop k t

@@ -151,7 +151,7 @@ module _ (s : ℕ) (words : List ℕ) (m : ℕ) where
     pub counted_up : (seen twice : ℕ) → Counted (Numbers a s words 0 m) seen twice m → Counted (Numbers b s words 0 m) seen twice m
     counted_up seen twice c = counted_as (Numbers a s words 0 m) (Numbers b s words 0 m) (λ u x. numbers_up x) (λ u x. numbers_down x) seen twice m c
 
-    counted_down : (seen twice : ℕ) → Counted (Numbers b s words 0 m) seen twice m → Counted (Numbers a s words 0 m) seen twice m
+    pub counted_down : (seen twice : ℕ) → Counted (Numbers b s words 0 m) seen twice m → Counted (Numbers a s words 0 m) seen twice m
     counted_down seen twice c = counted_as (Numbers b s words 0 m) (Numbers a s words 0 m) (λ u x. numbers_down x) (λ u x. numbers_up x) seen twice m c
 
   -- where neither a first productions nor b have others behind them
@@ -198,7 +198,7 @@ module _ (s : ℕ) (words : List ℕ) (m : ℕ) where
 
 -- ---- the two lowest
 
-sought_least : (p : ℕ) (words : List ℕ) (m start : ℕ) (a : Option ℕ) → Sought p words m start a → 1024 ≤ number_of a
+pub sought_least : (p : ℕ) (words : List ℕ) (m start : ℕ) (a : Option ℕ) → Sought p words m start a → 1024 ≤ number_of a
 sought_least p words m start (Some r) y = omega arith
 sought_least p words m start None y = omega arith
 
@@ -377,7 +377,7 @@ module _ (b : ℕ) (words : List ℕ) (t : List ℕ) where
     pub row_up : (t' : List ℕ) → Row b a words 0 t t' → Row b d words 0 t t'
     row_up t' w = record { long = w.long; cells = λ m. written_up (get_or t (b + m) 0) m (w.cells m); before = w.before }
 
-    row_down : (t' : List ℕ) → Row b d words 0 t t' → Row b a words 0 t t'
+    pub row_down : (t' : List ℕ) → Row b d words 0 t t' → Row b a words 0 t t'
     row_down t' w = record { long = w.long; cells = λ m. written_down (get_or t (b + m) 0) m (w.cells m); before = w.before }
 
   pub row_all : (a d : ℕ) → ((i : ℕ) → a ≤ i → get_or words i 0 ≡ 0) → ((i : ℕ) → d ≤ i → get_or words i 0 ≡ 0) → (t' : List ℕ) → Row b a words 0 t t' → Row b d words 0 t t'

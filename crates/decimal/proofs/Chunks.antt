@@ -2,7 +2,8 @@
 use mathlib.Core.Path.{◌≡◌, refl, ap, ◌∙◌}
 use mathlib.Core.List.{List, [], ◌∷◌, ◌++◌}
 use mathlib.Core.Bool.{Bool, true, false, cond}
-use Prim.Native.Nat.{ℕ, ◌+◌, ◌*◌, ◌<◌}
+use Prim.Native.Nat.{ℕ, ◌+◌, ◌*◌, ◌<◌, ◌≤◌}
+use borrow.Author.Tests.{le-ltb}
 use lib.ListN.{length, get_or, set, take, length-set}
 use lib.Dec.{leb, ltb}
 use Rattle.std.proofs.lemmas.List.{take_more}
@@ -21,6 +22,12 @@ fed_append f (x ∷ xs) ys = fed_append (fed_by f x) xs ys
 pub fed_next : (f g h : Fed) (bs : List ℕ) (i : ℕ) → i < length bs → g ≡ fed f (take i bs) → h ≡ fed_by g (get_or bs i 0) → h ≡ fed f (take (i + 1) bs)
 unfolding fed
 fed_next f g h bs i l d e = rw (take_more bs i 0 l, fed_append) (e ∙ ap (λ (k : Fed). fed_by k (get_or bs i 0)) d)
+
+-- no place behind the area is a number's
+pub outside : (a : List ℕ) (n : ℕ) (k : Class) → 772 ≤ n → fed_of a Bad ≡ fed_in a (Inside n) k
+outside a n Space h = rw (le-ltb n 772 h) refl
+outside a n (Digit d) h = rw (le-ltb n 772 h) refl
+outside a n Other h = refl
 
 entered_length : (a : List ℕ) (n v : ℕ) → length (entered a n v).area ≡ length a
 entered_length a n v = go (ltb n 772) (leb v 65535)

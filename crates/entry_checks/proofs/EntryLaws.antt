@@ -7,12 +7,12 @@ use mathlib.Core.List.{List}
 use native.Mathlib.Omega.{arith}
 use native.Mathlib.Decide.{ℕ_discrete}
 use lib.ListN.{length, get_or, take, drop}
-use lib.Dec.{ltb}
+use lib.Dec.{ltb, eqb}
 use borrow.Author.Tests.{lt-ltb, le-ltb, le-leb, lt-leb, ne_eqb}
 use Rattle.sets.specs.Tests.{all_below}
 use Rattle.sets.proofs.HasLaws.{lt_or_ge}
 use Rattle.sets.proofs.TestLaws.{all_split, all_ext, all_at, all_true}
-use Rattle.tables.specs.Layout.{states, productions, width, cell_of, entered_at, size_of}
+use Rattle.tables.specs.Layout.{states, productions, width, cell_of, entered_at, entered_of, size_of}
 use Rattle.tables.specs.declared.Shape.{Shape}
 use Rattle.machine.specs.Checks.{names_ok, row_names_ok}
 use Rattle.machine.proofs.Checked.{sized}
@@ -38,6 +38,10 @@ module _ (t : List ℕ) (x v : ℕ) where
   pub name_none : unnamed (states t) v ≡ true → names_ok t x v ≡ true
   unfolding names_ok
   name_none e = rw (names t v true e)
+
+  pub name_some : unnamed (states t) v ≡ false → names_ok t x v ≡ eqb (entered_of t v) x
+  unfolding names_ok
+  name_some e = rw (names t v false e)
 
 module _ {t : List ℕ} {z : Shape} (w : Whole t z) where
   pub entered_fits : (q : ℕ) → q < z.states → entered_at (productions t) q < length t

@@ -46,12 +46,13 @@ about_some k e = go (refusal_numbers e) (refusal_some e)
     go (n ∷ v) h z = omega arith
 
 -- a number of 0 is told of a merged card alone
-refusal_told : (e : Refusal) → peek (answer_numbers (Err e)) ≢ 0
-refusal_told (First e) h = about_some 1 e h
-refusal_told (Second e) h = about_some 2 e h
-refusal_told TerminalsDiffer h = omega arith
-refusal_told TooLarge h = omega arith
-refusal_told AreaShort h = omega arith
+pub only_merged : (r : Result ℕ Refusal) → peek (answer_numbers r) ≡ 0 → (n : ℕ) × (r ≡ Ok n)
+only_merged (Ok n) h = (n, refl)
+only_merged (Err (First e)) h = absurd (about_some 1 e h)
+only_merged (Err (Second e)) h = absurd (about_some 2 e h)
+only_merged (Err TerminalsDiffer) h = absurd (omega arith)
+only_merged (Err TooLarge) h = absurd (omega arith)
+only_merged (Err AreaShort) h = absurd (omega arith)
 
 -- a card that passed
 pub passed : {c : List ℕ} (v : Result (Unit {0}) card.Refusal) → true ≡ is_ok v → Checked c (verdict_numbers v) → Passes c

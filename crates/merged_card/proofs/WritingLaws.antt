@@ -46,7 +46,7 @@ module _ (i : ℕ) (area : List ℕ) where
 
 -- an area into which the first j of n numbers are written, all of which have room in it
 module _ (i j n : ℕ) (f : ℕ → ℕ) (old : List ℕ) {new : List ℕ} where
-  part_length : j ≤ n → i + n ≤ length old → new ≡ written i (each j (λ k. f k ∷ [])) old → length new ≡ length old
+  pub part_length : j ≤ n → i + n ≤ length old → new ≡ written i (each j (λ k. f k ∷ [])) old → length new ≡ length old
   part_length h k e = rw e (written_length i old (each j (λ k. f k ∷ [])) (omega (arith, ones_length j f)))
 
   -- one number more
@@ -76,7 +76,7 @@ module _ (a b : List ℕ) (p : Pieces) (t i : ℕ) (old : List ℕ) (room : i + 
   size : length (array_numbers a b t p) ≡ 2 + (p.first.count + p.second.count)
   size = array_length p.x p.y p.first.count (number_of a t p.first) p.second.count (number_of b t p.second)
 
-  second_head : i + 1 < length (set old i p.x)
+  pub second_head : i + 1 < length (set old i p.x)
   second_head = omega (arith, room, size, length-set old i p.x)
 
   begun_length : length begun ≡ length old

@@ -68,7 +68,7 @@ module _ (c : List ℕ) (e : ℕ → ℕ) (w : List ℕ) (r d m : ℕ) (G : Gath
   }
 
   -- an occurrence before the dot
-  gather_more : (w' : List ℕ) → nonterminals c ≤ 60 → 0 < d → d ≤ length_of c r → (j : ℕ) → j < nonterminals c → symbol_at c r (d - 1) ≡ terminals c + j → Occurs c e r (d - 1) → Occurred w m r (d - 1) j w' → Gathered c e w' r (d - 1) (m + 1)
+  pub gather_more : (w' : List ℕ) → nonterminals c ≤ 60 → 0 < d → d ≤ length_of c r → (j : ℕ) → j < nonterminals c → symbol_at c r (d - 1) ≡ terminals c + j → Occurs c e r (d - 1) → Occurred w m r (d - 1) j w' → Gathered c e w' r (d - 1) (m + 1)
   unfolding occurring_of
   gather_more w' n60 h l j hj ej O M = record {
     most = let a = G.most in omega arith;
@@ -143,7 +143,7 @@ module _ (c : List ℕ) (e : ℕ → ℕ) (r d : ℕ) (hd : 0 < d) (hl : d ≤ l
   no_more : (Nullable c e (symbol_at c r (d - 1)) → ⊥) → (i : ℕ) → i < d - 1 → Occurs c e r i → ⊥
   no_more n i h O = n (O.tail (d - 1) (omega arith) (omega arith))
 
-  tail_terminal : (w : List ℕ) (m x : ℕ) → Gathered c e w r d m → x ≡ symbol_at c r (d - 1) → x < terminals c → Gathered c e w r 0 m
+  pub tail_terminal : (w : List ℕ) (m x : ℕ) → Gathered c e w r d m → x ≡ symbol_at c r (d - 1) → x < terminals c → Gathered c e w r 0 m
   tail_terminal w m x G ex h =
       gather_stop c e w r d m G (λ i l O.
       ⊎_elim
@@ -151,13 +151,13 @@ module _ (c : List ℕ) (e : ℕ → ℕ) (r d : ℕ) (hd : 0 < d) (hl : d ≤ l
       (λ (z : i ≡ d - 1 → ⊥). no_more (λ n. let a = n.nonterminal in omega arith) i (omega arith) O)
       (eq_or i (d - 1)))
 
-  tail_occurs : (x : ℕ) → r < productions c → NullFrom c e r d → x ≡ symbol_at c r (d - 1) → terminals c ≤ x → Occurs c e r (d - 1)
+  pub tail_occurs : (x : ℕ) → r < productions c → NullFrom c e r d → x ≡ symbol_at c r (d - 1) → terminals c ≤ x → Occurs c e r (d - 1)
   tail_occurs x hr null ex h = record { production = hr; within = omega arith; nonterminal = rw (← ex) h; tail = λ i l g. null i (omega arith) g }
 
-  tail_last : (w : List ℕ) (m x t v : ℕ) → Gathered c e w r (d - 1) m → x ≡ symbol_at c r (d - 1) → t ≡ terminals c → v ≡ e (x - t) → 0 < v → Gathered c e w r 0 m
+  pub tail_last : (w : List ℕ) (m x t v : ℕ) → Gathered c e w r (d - 1) m → x ≡ symbol_at c r (d - 1) → t ≡ terminals c → v ≡ e (x - t) → 0 < v → Gathered c e w r 0 m
   tail_last w m x t v G ex et ev some = gather_stop c e w r (d - 1) m G (no_more (λ n. let z : v ≡ 0 = ev ∙ ap₂ (λ (y z : ℕ). e (y - z)) ex et ∙ n.empty in omega arith))
 
-  tail_null : (x t v : ℕ) → NullFrom c e r d → x ≡ symbol_at c r (d - 1) → t ≡ terminals c → t ≤ x → v ≡ e (x - t) → v ≡ 0 → NullFrom c e r (d - 1)
+  pub tail_null : (x t v : ℕ) → NullFrom c e r d → x ≡ symbol_at c r (d - 1) → t ≡ terminals c → t ≤ x → v ≡ e (x - t) → v ≡ 0 → NullFrom c e r (d - 1)
   tail_null x t v null ex et h ev none i l g =
       ⊎_elim
       (λ (z : d - 1 ≡ i). subst (λ (y : ℕ). Nullable c e (symbol_at c r y)) z here)
@@ -217,7 +217,7 @@ module _ (c w₀ w : List ℕ) (r d m s x t : ℕ) (T : Turn c w₀ w r d m s x 
 -- ---- the starts
 
 module _ (c w w₁ : List ℕ) (r s : ℕ) (hr : r < 128) (S : Stored w (starts_at + r) s w₁) where
-  store_high : (j : ℕ) → occurrences_at ≤ j → get_or w₁ j 0 ≡ get_or w j 0
+  pub store_high : (j : ℕ) → occurrences_at ≤ j → get_or w₁ j 0 ≡ get_or w j 0
   store_high j h = S.other j (λ z. omega arith)
 
   -- the lengths stay those of w₀

@@ -25,6 +25,11 @@ module _ {G : ℕ → ℕ → ℕ → Type 0} {f : ℕ → ℕ} {d q : ℕ} wher
   path_end (here e k) h = k
   path_end (step s g r) h = absurd (path_beyond r (omega arith))
 
+-- one kind of transitions for another
+pub path_map : {G H : ℕ → ℕ → ℕ → Type 0} {f : ℕ → ℕ} {d q i p : ℕ} → ((p x s : ℕ) → G p x s → H p x s) → Path G f d q i p → Path H f d q i p
+path_map m (here e k) = here e k
+path_map m (step {i} {p} s g r) = step s (m p _ s g) (path_map m r)
+
 module _ (w : List ℕ) (f : ℕ → ℕ) (d q : ℕ) where
   -- a path that begins before dot j passes through a state there
   path_through : (j : ℕ) {i p : ℕ} → Path (Enters w) f d q i p → i < j → j ≤ d → (t : ℕ) × (t < 256) × Path (Enters w) f d q j t

@@ -17,7 +17,7 @@ use Rattle.transitions.specs.Places.{predecessors_at, starts_at, lengths_at}
 use Rattle.transitions.specs.Area.{precedes, Paired, shortest_of}
 use Rattle.transitions.specs.Writes.{Stored, Preceded}
 
-stored : (w : List ℕ) (i v : ℕ) → i < length w → Stored w i v (set w i v)
+pub stored : (w : List ℕ) (i v : ℕ) → i < length w → Stored w i v (set w i v)
 stored w i v h = record { long = length-set w i v; here = get_or-set_same w i v 0 h; other = λ u n. get_or-set_other w i u v 0 n }
 
 -- ---- the states before a state

@@ -64,6 +64,9 @@ module _ {t st : List ℕ} {s : Spot} {q : ℕ} {qs : List ℕ} (h : Stands t st
 
 -- ---- a reduction by production r, whose length is 0: from the top
 
+pub top_in : {t st : List ℕ} {s : Spot} → Standing t st s → s.top < states t
+top_in h = rw h.stands.top_is (below_top h.stands.below)
+
 module _ {t st : List ℕ} {s : Spot} {q : ℕ} {qs : List ℕ} (h : Stands t st s q qs) (r : ℕ) (en : length_of t r ≡ 0) {v : ℕ} (ev : v ≡ cell_of t s.top (left_of t r)) where
   drops_none : drop (length_of t r) (q ∷ qs) ≡ q ∷ qs
   drops_none = rw en refl
