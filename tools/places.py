@@ -170,7 +170,7 @@ def by_hand():
 
 
 def facts():
-    """5: facts in the contracts of three or more functions; parameters that three or more functions take together."""
+    """5: facts in the contracts of three or more functions; parameters that six or more functions take together."""
     of = collections.defaultdict(set)
     for f in FUNCTIONS:
         for fact in f.facts():
@@ -220,10 +220,9 @@ def switches():
 
 
 def proofs():
-    """8: folders of proofs in the older form, and in the newer one."""
-    for name, form in (("Proof.antt", "older"), ("Answers.antt", "newer"), ("Invariants.antt", "newer, invariants")):
-        for path in sorted(glob.glob(os.path.join(TOP, "crates/*/proofs/**", name), recursive=True)):
-            yield "%s: %s" % (form, os.path.relpath(os.path.dirname(path), TOP))
+    """8: folders of proofs in the older form."""
+    for path in sorted(glob.glob(os.path.join(TOP, "crates/*/proofs/**/Proof.antt"), recursive=True)):
+        yield os.path.relpath(os.path.dirname(path), TOP)
 
 
 POINTS = {"1": results, "2": twins, "3": loops, "4": by_hand, "5": facts, "6": buffers, "7": switches, "8": proofs}
